@@ -1,11 +1,13 @@
 -- The law of channels over a board: the items of a channel are those of one lane, and of the two domains at its ends.
+use Rattle.board_model.proofs.PartReadings.{readings-append, readings-length}
+use Rattle.board_model.specs.Parts.{readings, part_after}
+use Rattle.board_model.proofs.PartRuns.{IsKnown, said_along}
 use Rattle.std.proofs.Common.{◌≡◌, ◌⊎◌, inl, inr, ℕ, ◌+◌, ◌<◌, ◌^◌, Bool, true, false, ◌&&◌, cond, List, [], ◌∷◌, ◌++◌, map, drop, length, find, Option, Some, None, refl, sym, ap, ◌∙◌, subst, arith}
 use Rattle.std.specs.Prelude.{◌==◌}
 use Rattle.std.specs.List.{AllByRecursion, flat_map}
 use Rattle.std.proofs.lemmas.Bool.{and_parts, eqb-true, eq-eqb, ne_eqb, cases_Bool}
 use Rattle.std.proofs.lemmas.List.{drop_at}
 use Rattle.std.proofs.lemmas.Simd.{map-map}
-use Rattle.mc_base.specs.Reading.{reading}
 use Rattle.board_model.specs.declared.scenario.DomainLine.{DomainLine}
 use Rattle.board_model.specs.declared.scenario.Scenario.{Scenario}
 use Rattle.board_model.specs.Lists.{IsPrefix}
@@ -20,8 +22,8 @@ use Rattle.board_model.specs.ChannelLaws.{ChannelKept}
 use Rattle.board_model.proofs.BoardsLanes.{lane_between, IsBefore, AreInOrder, lanes-in-order, lane-found}
 use Rattle.board_model.proofs.ChannelLists.{letters-contents, takes-along}
 use Rattle.board_model.proofs.ChannelPair.{aim, nothing_from, passed, no_words}
-use Rattle.board_model.proofs.ChannelWords.{not_begun, InOrder, way_of, letters, contents}
-use Rattle.board_model.proofs.DeedRuns.{puts_by, takes_by}
+use Rattle.board_model.proofs.ChannelWords.{not_begun, InOrder, way_of, letters, contents, letters_of}
+use Rattle.board_model.proofs.DeedRuns.{puts_by, takes_by, says_by}
 use Rattle.board_model.proofs.HearingLaw.{came_on, takes_on, Received, unaccepted, accepted, IsSmallFrame, received}
 use Rattle.board_model.proofs.ListsApart.{all-joined, differ-found}
 use Rattle.board_model.proofs.ListsOne.{all-any, AtMostOne, differ-one, empty_parts, joined-none, joined-dropped, joined-one}
@@ -35,13 +37,14 @@ use Rattle.board_model.proofs.WholeJoined.{Joined, joined_back}
 -- ---- what is known of each journal
 
 -- it tells of a run of deeds, which puts and takes the same frames; few of its calls succeed; letters that it posts are read back; and it
--- takes frames from those alone that have a lane to it
+-- takes frames from those alone that have a lane to it, which it knows
 pub record JournalRun (s : Scenario) (j : DomainJournal) : Type 0 where
   pub may : AllMayDo (opened s j) (deeds_of s j)
   pub puts : (peer : ℕ) → put_to peer j.entries ≡ along (puts_by peer) (opened s j) (deeds_of s j)
   pub takes : (peer : ℕ) → taken_from peer j.entries ≡ flat_map (takes_by peer) (deeds_of s j)
   pub few : all_succeed (deeds_of s j) + 1 < 2 ^ 64
   pub read : AllRead (opened s j) (deeds_of s j)
+  pub known : (peer : ℕ) → (flat_map (takes_by peer) (deeds_of s j) ≡ []) ⊎ IsKnown (opened s j) peer
   pub from : (peer : ℕ) → (flat_map (takes_by peer) (deeds_of s j) ≡ []) ⊎ ((size : ℕ) × Joined s j.line.domain peer size)
 
 abbrev IsFound : List DomainJournal → DomainJournal → Type 0
@@ -95,7 +98,7 @@ module _ (s : Scenario) (js : List DomainJournal) (board : IsLinkedBoard s) (run
 
   -- the data of the frames that were put from one domain to another and not taken
   abbrev ring : ℕ → ℕ → List (List ℕ)
-  ring a b = flat_map (λ f. data_said n (reading f)) (drop (length (taken_from a (journal_of b js))) (put_to b (journal_of a js)))
+  ring a b = flat_map (data_said n) (drop (length (taken_from a (journal_of b js))) (readings None (put_to b (journal_of a js))))
 
   -- nothing of the channel is at a domain
   record Quiet (o : ℕ) (j : DomainJournal) : Type 0 where
@@ -130,13 +133,16 @@ module _ (s : Scenario) (js : List DomainJournal) (board : IsLinkedBoard s) (run
 
     module _ (o : ℕ) (none : find (λ j. j.line.domain == o) js ≡ None) where
       apart : (j : DomainJournal) → Placed j → Quiet o j × Arrive o j
-      apart j on = go (received o n j.line.domain j.line.nodes (neighbours s j.line) (deeds_of s j) on.0.may (subst (AllByRecursion IsSmallFrame) (sym nothing) tt) on.0.few (subst (λ fs. InOrder not_begun (letters n fs)) (sym nothing) tt))
+      apart j on = go (received o n j.line.domain j.line.nodes (neighbours s j.line) (deeds_of s j) on.0.may (subst (AllByRecursion IsSmallFrame) (sym nothing) tt) on.0.few (subst (λ rs. InOrder not_begun (letters_of n rs)) (sym no_say) tt))
         where
           nothing : flat_map (takes_by o) (deeds_of s j) ≡ []
           nothing = none_from j on o none
 
-          came : came_on o n (deeds_of s j) ≡ []
-          came = ap (λ fs. contents (letters n fs)) nothing
+          no_say : along (says_by o) (opened s j) (deeds_of s j) ≡ []
+          no_say = sym (said_along o j.line.domain j.line.nodes (neighbours s j.line) (deeds_of s j) (inl nothing)) ∙ ap (readings None) nothing
+
+          came : came_on o n (opened s j) (deeds_of s j) ≡ []
+          came = ap (λ rs. contents (letters_of n rs)) no_say
 
           arrive : Arrive o j
           arrive = subst (AllByRecursion (λ word. arrives word ≡ true)) (sym (no_words o n (opened s j) (deeds_of s j) came)) tt
@@ -152,7 +158,7 @@ module _ (s : Scenario) (js : List DomainJournal) (board : IsLinkedBoard s) (run
       unowned = nothing_kept o
           (joined-none (accepted_in s o n) js (all-weaken (λ j. (j.line.domain == o) ≡ false) (λ j. accepted_in s o n j ≡ []) (λ j other. ap (λ b. cond b (along (accepted_by n) (opened s j) (deeds_of s j)) []) other) js (none-passes (λ j. j.line.domain == o) js none)))
           (all-weaken Placed (Quiet o) (λ j on. (apart j on).0) js placed) (all-weaken Placed (Arrive o) (λ j on. (apart j on).1) js placed)
-          (joined-none (data_on js o n) (lanes s) (all-any (λ l. data_on js o n l ≡ []) (λ l. lane_data o l (λ is. joined-dropped (λ f. data_said n (reading f)) (length (taken_from o (journal_of l.receiver js))) (put_to l.receiver (journal_of o js)) (ap (λ x. flat_map (λ f. data_said n (reading f)) (put_to l.receiver (journal_in x))) none))) (lanes s)))
+          (joined-none (data_on js o n) (lanes s) (all-any (λ l. data_on js o n l ≡ []) (λ l. lane_data o l (λ is. joined-dropped (data_said n) (length (taken_from o (journal_of l.receiver js))) (readings None (put_to l.receiver (journal_of o js))) (ap (λ x. flat_map (data_said n) (readings None (put_to l.receiver (journal_in x)))) none))) (lanes s)))
 
     -- ---- an owner that is one
 
@@ -176,20 +182,21 @@ module _ (s : Scenario) (js : List DomainJournal) (board : IsLinkedBoard s) (run
         either : (lost_in s o n j ≡ []) ⊎ (queued_in s o n j ≡ [])
         arrive : Arrive o j
 
-      ring_left : (j : DomainJournal) (at : Placed j) → contents (letters n (forth j at).0) ≡ ring o j.line.domain
+      ring_left : (j : DomainJournal) (at : Placed j) → contents (letters_of n (readings (part_after None (flat_map (takes_by o) (deeds_of s j))) (forth j at).0)) ≡ ring o j.line.domain
       unfolding forth front_same
       ring_left j at =
           let front = fronts j at o in
           let first : List (List ℕ) = taken_from o j.entries in
-          let left : drop (length (taken_from o (journal_of j.line.domain js))) (put_to j.line.domain (journal_of o js)) ≡ front.0
-          = ap (λ x. drop (length (taken_from o (journal_in x))) (put_to j.line.domain (journal_of o js))) at.1 ∙ (ap (drop (length first)) front.1 ∙ drop_at first front.0 (length first) refl) in
-          letters-contents n front.0 ∙ ap (flat_map (λ f. data_said n (reading f))) (sym left)
+          let left : drop (length (taken_from o (journal_of j.line.domain js))) (readings None (put_to j.line.domain (journal_of o js))) ≡ readings (part_after None first) front.0
+          = ap (λ x. drop (length (taken_from o (journal_in x))) (readings None (put_to j.line.domain (journal_of o js)))) at.1 ∙ (ap (λ fs. drop (length first) (readings None fs)) front.1 ∙ (ap (drop (length first)) (readings-append None first front.0) ∙ drop_at (readings None first) (readings (part_after None first) front.0) (length first) (readings-length None first))) in
+          letters-contents n (readings (part_after None (flat_map (takes_by o) (deeds_of s j))) front.0)
+          ∙ (ap (λ fs. flat_map (data_said n) (readings (part_after None fs) front.0)) (sym (at.0.takes o)) ∙ ap (flat_map (data_said n)) (sym left))
 
       share : (j : DomainJournal) → Placed j → Share j
       share j at =
-          let all = passed o n jo.line.nodes (neighbours s jo.line) (deeds_of s jo) on.0.may on.0.read on.0.few j.line.domain j.line.nodes (neighbours s j.line) (deeds_of s j) at.0.may at.0.few (forth j at) (back j at) in
+          let all = passed o n jo.line.nodes (neighbours s jo.line) (deeds_of s jo) on.0.may on.0.read on.0.few j.line.domain j.line.nodes (neighbours s j.line) (deeds_of s j) (at.0.known o) at.0.may at.0.few (forth j at) (back j at) in
           record {
-            kept = all.kept ∙ (ap (λ ts. ts ++ (lost_in s o n j ++ (queued_in s o n j ++ contents (letters n (forth j at).0)))) (takes-along o n (opened s j) (deeds_of s j)) ∙ ap (λ rs. taken_on s o n j ++ (lost_in s o n j ++ (queued_in s o n j ++ rs))) (ring_left j at));
+            kept = all.kept ∙ (ap (λ ts. ts ++ (lost_in s o n j ++ (queued_in s o n j ++ contents (letters_of n (readings (part_after None (flat_map (takes_by o) (deeds_of s j))) (forth j at).0))))) (takes-along o n (opened s j) (deeds_of s j)) ∙ ap (λ rs. taken_on s o n j ++ (lost_in s o n j ++ (queued_in s o n j ++ rs))) (ring_left j at));
             either = all.either;
             arrive = all.arrive;
           }
@@ -202,8 +209,8 @@ module _ (s : Scenario) (js : List DomainJournal) (board : IsLinkedBoard s) (run
           record { taken = more.0; lost = rest.0; queued = (empty_parts (queued_in s o n j) (ring o j.line.domain) rest.1).0 }
 
       no_ring : (p : ℕ) → sent p ≡ [] → ring o p ≡ []
-      no_ring p none = joined-dropped (λ f. data_said n (reading f)) (length (taken_from o (journal_of p js))) (put_to p (journal_of o js))
-          (ap (flat_map (λ f. data_said n (reading f))) (ap (λ x. put_to p (journal_in x)) on.1 ∙ on.0.puts p) ∙ (sym (letters-contents n (along (puts_by p) (opened s jo) (deeds_of s jo))) ∙ none))
+      no_ring p none = joined-dropped (data_said n) (length (taken_from o (journal_of p js))) (readings None (put_to p (journal_of o js)))
+          (ap (λ fs. flat_map (data_said n) (readings None fs)) (ap (λ x. put_to p (journal_in x)) on.1 ∙ on.0.puts p) ∙ (sym (letters-contents n (readings None (along (puts_by p) (opened s jo) (deeds_of s jo)))) ∙ none))
 
       abbrev by_owner : List (List ℕ)
       by_owner = along (accepted_by n) (opened s jo) (deeds_of s jo)

@@ -1,4 +1,5 @@
 -- The law of channels: every channel of a board run is kept, and each receiver's close tells how many items of its channel it drops.
+use Rattle.board_model.proofs.PartLaw.{from_peer}
 use Rattle.std.proofs.Common.{◌≡◌, ◌⊎◌, inl, inr, ℕ, Bool, true, false, List, [], ◌∷◌, ◌++◌, find, flat_map, Option, None, Some, refl, sym, ◌∙◌, subst}
 use Rattle.std.specs.Prelude.{◌==◌}
 use Rattle.std.specs.List.{AllByRecursion}
@@ -20,7 +21,7 @@ use Rattle.board_model.proofs.DeedRuns.{frames_if, takes_by}
 use Rattle.board_model.proofs.HearingCloses.{run_closes}
 use Rattle.board_model.proofs.HonestBoard.{may_know, OnBoard, each_on_board, moment, moment_far, once_holds}
 use Rattle.board_model.proofs.HonestPosts.{posts_read}
-use Rattle.board_model.proofs.KeptBoard.{reach}
+use Rattle.board_model.proofs.KeptReach.{reach}
 use Rattle.board_model.proofs.KeptLanes.{IsOnce, IsFrom}
 use Rattle.board_model.proofs.KeptSends.{FitsDeed}
 use Rattle.board_model.proofs.KeptTells.{numbers_of}
@@ -85,6 +86,7 @@ module _ (s : Scenario) (js : List DomainJournal) (board : IsLinkedBoard s) (run
         few = on.deeds.few;
         read = reads_along j on [] (deeds_of s j) refl on.deeds.fit;
         from = from_lane j on told;
+        known = λ q. (from_peer s js board run j on told q).known;
       }
 
   pub closes-tell-dropped : AllByRecursion (ClosesTellDropped s) js

@@ -4,18 +4,19 @@ use Rattle.std.specs.Prelude.{◌==◌}
 use Rattle.std.specs.List.{flat_map}
 use Rattle.std.proofs.lemmas.List.{map-append}
 use Rattle.mc_base.specs.Letter.{PlainLetter, msg, connect, accept, reject, recv_open, send_open, packet, scalar, send_close, recv_close}
-use Rattle.mc_base.specs.Reading.{Reading, is_faulty, announces, says, reading}
+use Rattle.mc_base.specs.Reading.{Reading, is_faulty, announces, says, brings}
 use Rattle.board_model.specs.Channels.{is_of_channel, contents_of, data_said}
 use Rattle.board_model.specs.Deeds.{Deed, after_deed, along}
 use Rattle.board_model.specs.State.{Item, DomainState}
 use Rattle.board_model.specs.Takings.{takings_by}
-use Rattle.board_model.proofs.ChannelWords.{sent_by, letters, data_of, contents}
+use Rattle.board_model.proofs.ChannelWords.{sent_by, data_of, contents, letters_of}
 use Rattle.board_model.proofs.HearingLaw.{takes_on, contents-append}
 
 -- ---- the contents of a channel's letters are the data of its frames
 
 said_contents : (n : ℕ) (r : Reading) → contents (sent_by n r) ≡ data_said n r
 said_contents n (is_faulty f) = refl
+said_contents n (brings src dst q) = refl
 said_contents n (announces text address there) = refl
 said_contents n (says source destination l) = letter l
   where
@@ -39,9 +40,9 @@ said_contents n (says source destination l) = letter l
     letter (recv_open m) = refl
     letter (recv_close m) = refl
 
-pub letters-contents : (n : ℕ) (frames : List (List ℕ)) → contents (letters n frames) ≡ flat_map (λ f. data_said n (reading f)) frames
+pub letters-contents : (n : ℕ) (rs : List Reading) → contents (letters_of n rs) ≡ flat_map (data_said n) rs
 letters-contents n [] = refl
-letters-contents n (f ∷ fs) = contents-append (sent_by n (reading f)) (letters n fs) ∙ (ap (λ ds. ds ++ contents (letters n fs)) (said_contents n (reading f)) ∙ ap (λ ds. data_said n (reading f) ++ ds) (letters-contents n fs))
+letters-contents n (r ∷ rs) = contents-append (sent_by n r) (letters_of n rs) ∙ (ap (λ ds. ds ++ contents (letters_of n rs)) (said_contents n r) ∙ ap (λ ds. data_said n r ++ ds) (letters-contents n rs))
 
 -- ---- what receives took along a run
 

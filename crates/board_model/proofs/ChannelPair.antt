@@ -1,10 +1,13 @@
 -- A channel over the runs of its two domains, whose two lanes fit together. Neither run knows the other's time: a frame may be taken in
 -- the one before the entry of the other that puts it.
+use Rattle.board_model.proofs.PartReadings.{readings-append}
+use Rattle.board_model.proofs.PartRuns.{IsKnown, said_along}
+use Rattle.board_model.specs.Parts.{said_from, readings, part_after}
 use Rattle.std.proofs.Common.{◌≡◌, ◌⊎◌, inl, inr, ℕ, zero, suc, ◌+◌, ◌<◌, ◌^◌, Bool, true, false, cond, List, [], ◌∷◌, ◌++◌, map, Option, Some, None, refl, sym, ap, ◌∙◌, subst, arith}
 use Rattle.std.specs.Prelude.{◌==◌, ◌||◌}
 use Rattle.std.specs.List.{AllByRecursion, flat_map, list_any}
 use Rattle.std.proofs.lemmas.List.{append_assoc}
-use Rattle.mc_base.specs.Reading.{reading}
+use Rattle.mc_base.specs.Reading.{reading, Reading}
 use Rattle.mc_base.specs.declared.fate.Fate.{Fate}
 use Rattle.board_model.specs.Channels.{data_said, lost_by, words_by, arrives, accepted_by}
 use Rattle.board_model.specs.Deeds.{Deed, takes, after_deed, AllMayDo, after_deeds, along}
@@ -12,10 +15,10 @@ use Rattle.board_model.specs.Lists.{IsPrefix}
 use Rattle.board_model.specs.Scenario.{Neighbour}
 use Rattle.board_model.specs.State.{ChannelEnd, DomainState, opening, endpoint_of}
 use Rattle.board_model.proofs.ChannelLists.{letters-contents}
-use Rattle.board_model.proofs.ChannelWords.{Way, not_begun, letters, contents, InOrder, way_of}
-use Rattle.board_model.proofs.DeedRuns.{frames_if, puts_by, takes_by}
+use Rattle.board_model.proofs.ChannelWords.{Way, not_begun, letters, contents, InOrder, way_of, letters_of, Sent}
+use Rattle.board_model.proofs.DeedRuns.{puts_by, takes_by, says_by}
 use Rattle.board_model.proofs.Hearing.{accepts, NoAccept}
-use Rattle.board_model.proofs.HearingLaw.{in_order-parts, letters-append, contents-append, takes_on, came_on, Received, unaccepted, accepted, opening_sound, IsSmallFrame, received}
+use Rattle.board_model.proofs.HearingLaw.{in_order-parts, contents-append, takes_on, came_on, Received, unaccepted, accepted, opening_sound, IsSmallFrame, received, letters_of-append}
 use Rattle.board_model.proofs.HearingQueues.{queued_on}
 use Rattle.board_model.proofs.HearingSmall.{small_puts}
 use Rattle.board_model.proofs.ListsOne.{empty_parts}
@@ -29,20 +32,20 @@ use Rattle.board_model.proofs.SendingDeeds.{AllRead, AllOut, all_out, SentOut, r
 
 -- where no data came there are no words of data
 module _ (o n : ℕ) where
-  frame_words : (b : Bool) (frame : List ℕ) (word : Fate) → contents (letters n (frames_if b (frame ∷ []))) ≡ [] → cond b (map (λ content. word) (data_said n (reading frame))) [] ≡ []
-  frame_words false frame word none = refl
-  frame_words true frame word none = ap (map (λ content. word)) (empty_parts (data_said n (reading frame)) [] (sym (letters-contents n (frame ∷ [])) ∙ none)).0
+  frame_words : (b : Bool) (r : Reading) (word : Fate) → contents (letters_of n (cond b (r ∷ []) [])) ≡ [] → cond b (map (λ content. word) (data_said n r)) [] ≡ []
+  frame_words false r word none = refl
+  frame_words true r word none = ap (map (λ content. word)) (empty_parts (data_said n r) [] (sym (letters-contents n (r ∷ [])) ∙ none)).0
 
-  deed_words : (s : DomainState) (d : Deed) → contents (letters n (takes_by o d)) ≡ [] → words_by o n s d ≡ []
-  deed_words s (takes p name frame word) none = frame_words (p == o) frame word none
+  deed_words : (s : DomainState) (d : Deed) → contents (letters_of n (says_by o s d)) ≡ [] → words_by o n s d ≡ []
+  deed_words s (takes p name frame word) none = frame_words (p == o) (said_from s p frame) word none
   deed_words s other none = refl
 
-  pub no_words : (s : DomainState) (ds : List Deed) → came_on o n ds ≡ [] → along (words_by o n) s ds ≡ []
+  pub no_words : (s : DomainState) (ds : List Deed) → came_on o n s ds ≡ [] → along (words_by o n) s ds ≡ []
   no_words s [] none = refl
   no_words s (d ∷ ds) none =
-      let here : List (List ℕ) = takes_by o d in
-      let later : List (List ℕ) = flat_map (takes_by o) ds in
-      let parts = empty_parts (contents (letters n here)) (contents (letters n later)) (sym (ap contents (letters-append n here later) ∙ contents-append (letters n here) (letters n later)) ∙ none) in
+      let here : List Reading = says_by o s d in
+      let later : List Reading = along (says_by o) (after_deed s d) ds in
+      let parts = empty_parts (contents (letters_of n here)) (contents (letters_of n later)) (sym (ap contents (letters_of-append n here later) ∙ contents-append (letters_of n here) (letters_of n later)) ∙ none) in
       ap (λ ws. ws ++ along (words_by o n) (after_deed s d) ds) (deed_words s d parts.0) ∙ no_words (after_deed s d) ds parts.1
 
 none_accepted : (n : ℕ) (fs : List (List ℕ)) → NoAccept n fs → Accepted n fs → ⊥
@@ -117,22 +120,30 @@ module _ (o n nodes : ℕ) (at : List Neighbour) (sends : List Deed) where
       -- what was put is what was taken, then what was lost and what is queued, not both of which there are, and what the rest of the lane
       -- carries; and each data frame taken arrived
       pub record Passed (rest : List (List ℕ)) : Type 0 where
-        pub kept : contents (letters n (put_on r)) ≡ taken_there ++ (lost_there ++ (queued_there ++ contents (letters n rest)))
+        pub kept : contents (letters n (put_on r)) ≡ taken_there ++ (lost_there ++ (queued_there ++ contents (letters_of n (readings (part_after None (flat_map (takes_by o) hears)) rest))))
         pub either : (lost_there ≡ []) ⊎ (queued_there ≡ [])
         pub arrive : AllByRecursion (λ word. arrives word ≡ true) (along (words_by o n) receiver hears)
 
-      module _ (may_r : AllMayDo receiver hears) (few_r : all_succeed hears + 1 < 2 ^ 64) (forth : IsPrefix (flat_map (takes_by o) hears) (put_on r)) (back : IsPrefix (flat_map (takes_by r) sends) (along (puts_by o) receiver hears)) where
-        split : letters n (put_on r) ≡ letters n (flat_map (takes_by o) hears) ++ letters n forth.0
-        split = ap (letters n) forth.1 ∙ letters-append n (flat_map (takes_by o) hears) forth.0
+      module _ (known_r : (flat_map (takes_by o) hears ≡ []) ⊎ IsKnown receiver o) (may_r : AllMayDo receiver hears) (few_r : all_succeed hears + 1 < 2 ^ 64) (forth : IsPrefix (flat_map (takes_by o) hears) (put_on r)) (back : IsPrefix (flat_map (takes_by r) sends) (along (puts_by o) receiver hears)) where
+        -- the letters of the frames that are left on the lane
+        abbrev left_on : List Sent
+        left_on = letters_of n (readings (part_after None (flat_map (takes_by o) hears)) forth.0)
 
-        all_came : contents (letters n (put_on r)) ≡ came_on o n hears ++ contents (letters n forth.0)
-        all_came = ap contents split ∙ contents-append (letters n (flat_map (takes_by o) hears)) (letters n forth.0)
+        -- what the frames taken say is what the domain read of them
+        said : readings None (flat_map (takes_by o) hears) ≡ along (says_by o) receiver hears
+        said = said_along o r nodes_r at_r hears known_r
+
+        split : letters n (put_on r) ≡ letters_of n (along (says_by o) receiver hears) ++ left_on
+        split = ap (letters n) forth.1 ∙ (ap (letters_of n) (readings-append None (flat_map (takes_by o) hears) forth.0) ∙ (letters_of-append n (readings None (flat_map (takes_by o) hears)) (readings (part_after None (flat_map (takes_by o) hears)) forth.0) ∙ ap (λ rs. letters_of n rs ++ left_on) said))
+
+        all_came : contents (letters n (put_on r)) ≡ came_on o n receiver hears ++ contents left_on
+        all_came = ap contents split ∙ contents-append (letters_of n (along (says_by o) receiver hears)) left_on
 
         small : AllByRecursion IsSmallFrame (flat_map (takes_by o) hears)
         small = (all-parts IsSmallFrame (flat_map (takes_by o) hears) forth.0 (subst (AllByRecursion IsSmallFrame) forth.1 (small_puts r sender sends may))).0
 
         heard : Received o n receiver hears
-        heard = received o n r nodes_r at_r hears may_r small few_r (in_order-parts not_begun (letters n (flat_map (takes_by o) hears)) (letters n forth.0) (subst (InOrder not_begun) split (lane_order r))).0
+        heard = received o n r nodes_r at_r hears may_r small few_r (in_order-parts not_begun (letters_of n (along (says_by o) receiver hears)) left_on (subst (InOrder not_begun) split (lane_order r))).0
 
         -- where no accept was put, nothing was sent
         no_data : NoAccept n (along (puts_by o) receiver hears) → contents (letters n (put_on r)) ≡ []
@@ -151,10 +162,10 @@ module _ (o n nodes : ℕ) (at : List Neighbour) (sends : List Deed) where
             go : Received o n receiver hears → Passed forth.0
             go (unaccepted silent taken lost queued) =
                 let empty = no_data silent in
-                let parts = empty_parts (came_on o n hears) (contents (letters n forth.0)) (sym all_came ∙ empty) in
+                let parts = empty_parts (came_on o n receiver hears) (contents left_on) (sym all_came ∙ empty) in
                 record { kept = rw (empty, taken, lost, queued, parts.1) refl; either = inl lost; arrive = subst (AllByRecursion (λ word. arrives word ≡ true)) (sym (no_words o n receiver hears parts.0)) tt }
             go (accepted came either arrive) = record {
-              kept = all_came ∙ (ap (λ cs. cs ++ contents (letters n forth.0)) came ∙ (append_assoc taken_there (lost_there ++ queued_there) (contents (letters n forth.0)) ∙ ap (λ cs. taken_there ++ cs) (append_assoc lost_there queued_there (contents (letters n forth.0)))));
+              kept = all_came ∙ (ap (λ cs. cs ++ contents left_on) came ∙ (append_assoc taken_there (lost_there ++ queued_there) (contents left_on) ∙ ap (λ cs. taken_there ++ cs) (append_assoc lost_there queued_there (contents left_on))));
               either = either;
               arrive = arrive;
             }

@@ -1,9 +1,10 @@
 -- Words of the channel law: the letters of a channel on a lane, how far they have come, and what changes take and lose of a channel.
+use Rattle.board_model.specs.Parts.{readings}
 use Rattle.std.specs.Prelude.{◌≡◌, ℕ, Bool, false, ◌==◌, List, [], ◌∷◌, ◌++◌, map, drop, option_to_list, Option, Some, None, if◌then◌else◌}
 use Rattle.std.specs.List.{flat_map}
 use Rattle.byteorder.specs.Endian.{little_bytes}
 use Rattle.mc_base.specs.Letter.{PlainLetter, connect, send_open, packet, scalar, send_close, bytes_of_bits}
-use Rattle.mc_base.specs.Reading.{Reading, says, reading}
+use Rattle.mc_base.specs.Reading.{Reading, says}
 use Rattle.mc_base.specs.declared.channel.Kind.{Kind}
 use Rattle.mc_base.specs.declared.channel.Kind.TheVariants.{Packet, Scalar}
 use Rattle.mc_base.specs.declared.channel.Side.{Side}
@@ -79,8 +80,12 @@ abbrev pub sent_by : ℕ → Reading → List Sent
 sent_by n (says src dst l) = if letter_on n l then record { source = src; destination = dst; letter = l } ∷ [] else []
 sent_by n other = []
 
+abbrev pub letters_of : ℕ → List Reading → List Sent
+letters_of n rs = flat_map (sent_by n) rs
+
+-- of frames one after the other, each with the part before it
 abbrev pub letters : ℕ → List (List ℕ) → List Sent
-letters n frames = flat_map (λ f. sent_by n (reading f)) frames
+letters n frames = letters_of n (readings None frames)
 
 -- the contents of data letters
 abbrev pub data_of : PlainLetter → List (List ℕ)

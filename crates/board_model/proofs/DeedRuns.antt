@@ -1,4 +1,6 @@
 -- Runs of deeds: what the laws of messages rest on. Each deed is allowed, and each frame is named by its place among those taken.
+use Rattle.mc_base.specs.Reading.{Reading}
+use Rattle.board_model.specs.Parts.{said_from}
 use Rattle.std.proofs.Common.{◌≡◌, ℕ, ◌+◌, Bool, cond, List, [], ◌∷◌, ◌++◌, Some}
 use Rattle.std.specs.Prelude.{◌==◌}
 use Rattle.std.specs.List.{flat_map}
@@ -45,3 +47,8 @@ puts_by peer s other = []
 abbrev pub takes_by : ℕ → Deed → List (List ℕ)
 takes_by peer (takes p name frame word) = frames_if (p == peer) (frame ∷ [])
 takes_by peer other = []
+
+-- and what the frame says that it takes from it
+abbrev pub says_by : ℕ → DomainState → Deed → List Reading
+says_by peer s (takes p name frame word) = cond (p == peer) (said_from s p frame ∷ []) []
+says_by peer s other = []

@@ -1,21 +1,24 @@
 -- The receiving end of a channel along a run: each deed keeps what is known of it.
+use Rattle.std.specs.List.{AllByRecursion}
+use Rattle.board_model.proofs.PartLetters.{each-put, each-frame}
+use Rattle.board_model.proofs.PartReadings.{coming-holds}
+use Rattle.board_model.specs.Parts.{Came, came_from, said_from, held_by, part_of}
 use Rattle.std.proofs.Common.{◌≡◌, ℕ, Bool, true, false, cond, List, [], ◌∷◌, ◌++◌, map, Option, Some, None, refl, sym, ap, ◌∙◌, subst}
 use Rattle.std.specs.Prelude.{is_none, ◌==◌}
 use Rattle.std.proofs.lemmas.Bool.{eqb-true, eq-eqb}
-use Rattle.mc_base.specs.Letter.{PlainLetter, msg, connect, accept, reject, recv_open, send_open, packet, scalar, send_close, recv_close, spelling}
-use Rattle.mc_base.specs.Reading.{Reading, is_faulty, announces, says, reading}
+use Rattle.mc_base.specs.Letter.{PlainLetter, msg, connect, accept, reject, recv_open, send_open, packet, scalar, send_close, recv_close, Carrier, of_message, of_packet, carried}
+use Rattle.mc_base.specs.Reading.{Reading, is_faulty, announces, says, reading, brings}
 use Rattle.mc_base.specs.declared.channel.Kind.{Kind}
-use Rattle.board_model.specs.Answer.{Post, puts}
+use Rattle.board_model.specs.Answer.{Post, puts, puts_of}
 use Rattle.board_model.proofs.MessageAlls.{all-append}
 use Rattle.board_model.proofs.PostsSent.{MaySend, puts_all, frames_all}
 use Rattle.mc_base.specs.Fault.{fault}
-use Rattle.mc_base.specs.Frame.{made}
-use Rattle.board_model.specs.Change.{Change, frame_taken, changed, changed_all}
-use Rattle.board_model.specs.Deeds.{Deed, looks_back, puts_owed, looks_ahead, takes, calls, happens_by, MayDo}
+use Rattle.board_model.specs.Change.{Change, changed, changed_all}
+use Rattle.board_model.specs.Deeds.{Deed, looks_back, puts_owed, looks_ahead, takes, calls, happens_by, MayDo, taken_change}
 use Rattle.board_model.specs.State.{Announcement, Peer, DomainState, announcing, replying, owed_to, peer_at, endpoint_of}
 use Rattle.board_model.specs.TakenFrames.{row_of}
-use Rattle.board_model.proofs.ChannelWords.{Way, not_begun, goes_to, is_over, Sent, sent_by, letters, contents, Follows, InOrder, way_of, taken_by, dropped_by, through}
-use Rattle.board_model.proofs.DeedRuns.{frames_if, puts_by, takes_by}
+use Rattle.board_model.proofs.ChannelWords.{Way, not_begun, goes_to, is_over, Sent, sent_by, contents, Follows, InOrder, way_of, taken_by, dropped_by, through, letters_of}
+use Rattle.board_model.proofs.DeedRuns.{frames_if, puts_by, says_by}
 use Rattle.board_model.proofs.Hearing.{Heard, heard, Lists, more, HeardAt, accepts, NoAccept, owed_replies, Hearing, unheard, refused, heard_at, nothing}
 use Rattle.board_model.proofs.HearingRuns.{hearing_change, hearing_changes}
 use Rattle.board_model.proofs.HearingCalls.{Own, call_fits}
@@ -38,7 +41,7 @@ IsSmallFrom o other = Unit {0}
 abbrev pub Done : ℕ → ℕ → DomainState → Way → Lists → List Sent → List Change → Type 0
 Done o n s w h ls cs = Hearing o n (way_of w ls) (more h (contents ls) (through (taken_by o n) s cs) (through (dropped_by o n) s cs)) (changed_all s cs)
 
-module _ (read : RepliesRead) (o n : ℕ) (s : DomainState) (w : Way) (h : Lists) (hearing : Hearing o n w h s) (key : Option ℕ) where
+module _ (read : RepliesRead) (o n : ℕ) (s : DomainState) (w : Way) (h : Lists) (hearing : Hearing o n w h s) (key : Came) where
   by_frame : (p : ℕ) (r : Reading) → IsForeign o n p r → Done o n s w h [] (row_of s p key r).happens
   by_frame p r foreign = hearing_changes o n w h s (row_of s p key r).happens (frame_fits read o n s p key r foreign) hearing
 
@@ -100,31 +103,40 @@ module _ (read : RepliesRead) (o n : ℕ) (s : DomainState) (w : Way) (h : Lists
 
   owner_frame : (r : Reading) → IsSmallReading r → IsQuiet s → InOrder w (sent_by n r ++ []) → Done o n s w h (sent_by n r ++ []) (row_of s o key r).happens
   owner_frame (is_faulty f) small quiet order = by_frame o (is_faulty f) tt
+  owner_frame (brings src dst q) small quiet order = by_frame o (brings src dst q) tt
   owner_frame (announces text address there) small quiet order = by_frame o (announces text address there) tt
   owner_frame (says src dst l) small quiet order = from_owner src dst l small quiet order
 
-  any_frame : (p : ℕ) (frame : List ℕ) → (p ≡ o → IsSmallReading (reading frame)) → IsQuiet s → InOrder w (letters n (frames_if (p == o) (frame ∷ []))) → Done o n s w h (letters n (frames_if (p == o) (frame ∷ []))) (row_of s p key (reading frame)).happens
-  any_frame p frame small quiet order = go (p == o) refl order
+  any_frame : (p : ℕ) (r : Reading) → (p ≡ o → IsSmallReading r) → IsQuiet s → InOrder w (letters_of n (cond (p == o) (r ∷ []) [])) → Done o n s w h (letters_of n (cond (p == o) (r ∷ []) [])) (row_of s p key r).happens
+  any_frame p r small quiet order = go (p == o) refl order
     where
-      foreign : (r : Reading) → (p ≡ o → IsSmallReading r) → (p == o) ≡ false → IsForeign o n p r
+      foreign : (x : Reading) → (p ≡ o → IsSmallReading x) → (p == o) ≡ false → IsForeign o n p x
       foreign (says src dst l) fits is = (fits, (λ a b. let it : (p == o) ≡ true = eq-eqb p o b in let never = sym is ∙ it in absurd cc))
       foreign (is_faulty f) fits is = tt
+      foreign (brings src dst q) fits is = tt
       foreign (announces text address there) fits is = tt
 
-      go : (b : Bool) → (p == o) ≡ b → InOrder w (letters n (frames_if b (frame ∷ []))) → Done o n s w h (letters n (frames_if b (frame ∷ []))) (row_of s p key (reading frame)).happens
-      go true is ordered = let owner : p ≡ o = eqb-true p o is in subst (λ q. Done o n s w h (sent_by n (reading frame) ++ []) (row_of s q key (reading frame)).happens) (sym owner) (owner_frame (reading frame) (small owner) quiet ordered)
-      go false is ordered = by_frame p (reading frame) (foreign (reading frame) small is)
+      go : (b : Bool) → (p == o) ≡ b → InOrder w (letters_of n (cond b (r ∷ []) [])) → Done o n s w h (letters_of n (cond b (r ∷ []) [])) (row_of s p key r).happens
+      go true is ordered = let owner : p ≡ o = eqb-true p o is in subst (λ q. Done o n s w h (sent_by n r ++ []) (row_of s q key r).happens) (sym owner) (owner_frame r (small owner) quiet ordered)
+      go false is ordered = by_frame p r (foreign r small is)
+
+small_carried : (s d : ℕ) (k : Carrier) (bytes : List ℕ) → IsSmallReading (says s d (carried k bytes))
+small_carried s d (of_message priority) bytes = tt
+small_carried s d (of_packet n) bytes = tt
 
 -- any deed
-pub deed_step : (read : RepliesRead) (o n : ℕ) (s : DomainState) (w : Way) (h : Lists) (d : Deed) → Own s → IsQuiet s → IsSmallFrom o d → InOrder w (letters n (takes_by o d)) → Hearing o n w h s → Done o n s w h (letters n (takes_by o d)) (happens_by s d)
+pub deed_step : (read : RepliesRead) (o n : ℕ) (s : DomainState) (w : Way) (h : Lists) (d : Deed) → Own s → IsQuiet s → IsSmallFrom o d → InOrder w (letters_of n (says_by o s d)) → Hearing o n w h s → Done o n s w h (letters_of n (says_by o s d)) (happens_by s d)
 deed_step read o n s w h (looks_back p count) own quiet small order hearing = hearing_changes o n w h s (happens_by s (looks_back p count)) (tt, tt) hearing
 deed_step read o n s w h (puts_owed p frame) own quiet small order hearing = hearing_changes o n w h s (happens_by s (puts_owed p frame)) (tt, tt) hearing
 deed_step read o n s w h (looks_ahead p count) own quiet small order hearing = hearing_changes o n w h s (happens_by s (looks_ahead p count)) (tt, tt) hearing
 deed_step read o n s w h (calls node call a) own quiet small order hearing = hearing_changes o n w h s (happens_by s (calls node call a)) (call_fits o n s own node call) hearing
 deed_step read o n s w h (takes p name frame word) own quiet small order hearing =
-    let now = changed s (frame_taken p) in
-    let still : Hearing o n w h now = subst (λ k. Hearing o n w k now) (nothing h) (hearing_change o n w h s (frame_taken p) tt hearing) in
-    subst (λ r. Done o n now w h (letters n (takes_by o (takes p name frame word))) r.happens) (row_same s p p name (reading frame)) (any_frame read o n now w h still name p frame small quiet order)
+    let c : Came = came_from s p name frame in
+    let r : Reading = said_from s p frame in
+    let now = changed s (taken_change p c) in
+    let still : Hearing o n w h now = subst (λ k. Hearing o n w k now) (nothing h) (hearing_change o n w h s (taken_change p c) tt hearing) in
+    let fits : p ≡ o → IsSmallReading r = λ e. coming-holds IsSmallReading small_carried (λ a d q. tt) (part_of s p) (reading frame) (small e) in
+    subst (λ x. Done o n now w h (letters_of n (says_by o s (takes p name frame word))) x.happens) (row_same s p c.part (held_by c) p c r) (any_frame read o n now w h still c p r fits quiet order)
 
 -- ---- what is put to the owner
 
@@ -135,8 +147,8 @@ module _ (read : RepliesRead) (o n : ℕ) (s : DomainState) where
   abbrev IsSilent : List ℕ → Type 0
   IsSilent f = accepts n (reading f) ≡ false
 
-  sent_silent : (p : Post) → MaySend s p.letter → IsSilent (made p.source p.destination (spelling p.letter))
-  sent_silent p may = read.sent_other n p.source p.destination p.letter (go p.letter may)
+  sent_silent : (p : Post) → MaySend s p.letter → AllByRecursion (λ (q : ℕ × List ℕ). IsSilent q.1) (puts_of p)
+  sent_silent p may = each-put IsSilent p (each-frame (λ r. accepts n r ≡ false) p.source p.destination p.letter (read.sent_other n p.source p.destination p.letter (go p.letter may)) (λ w. refl) (λ a d q. refl))
     where
       go : (l : PlainLetter) → MaySend s l → IsNoAccept l
       go (accept m) sends = absurd sends

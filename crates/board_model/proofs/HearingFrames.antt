@@ -1,4 +1,5 @@
 -- What a frame that is no letter of the channel does to the channel's receiving end.
+use Rattle.board_model.specs.Parts.{Came}
 use Rattle.std.proofs.Common.{◌≡◌, ℕ, ◌<◌, ◌^◌, Bool, true, false, not, cond, List, [], ◌∷◌, ◌++◌, Option, Some, None, refl, sym, ap, ◌∙◌}
 use Rattle.std.specs.Prelude.{◌==◌, ◌&&◌}
 use Rattle.std.proofs.lemmas.Bool.{and_parts, eqb-true, eq-eqb, cond_both}
@@ -22,12 +23,12 @@ use Rattle.board_model.specs.Change.{Change, channel_set, name_found, names_know
 use Rattle.board_model.specs.ChannelEnds.{data_rows, sends_to, hears_from, is_closed, is_connecting, far_closed_end, same_kind, accepted_end, same_side}
 use Rattle.board_model.specs.State.{Announcement, announcing, Item, ChannelEnd, Endpoint, DomainState, connected, endpoint_of, one_waits, peer_at}
 use Rattle.board_model.specs.TakenFrames.{last_row, rows_by, Row, first_row, rows, names_of, name_rows, letter_rows, channel_rows, message_rows, connect_rows, rejecting}
-use Rattle.mc_base.specs.Reading.{Reading, is_faulty, announces, says, reading}
+use Rattle.mc_base.specs.Reading.{Reading, is_faulty, announces, says, reading, brings}
 use Rattle.mc_base.specs.declared.channel.Side.TheVariants.{Receiver}
-use Rattle.board_model.proofs.LaneRows.{by_rows}
+use Rattle.board_model.proofs.LaneRows.{by_rows, by_part}
 
 -- what holds of every list of changes that an announcement may bring
-pub by_names : (P : List Change → Type 0) (s : DomainState) (q : ℕ) (key : Option ℕ) (name : List ℕ) (a : ℕ) (create : Bool) → P [] → ((n : EndName) → P (names_known q (learned n a (names_of (peer_at s q))) ∷ name_found n a ∷ [])) → ((n : EndName) → P (names_known q (forgotten n (names_of (peer_at s q))) ∷ [])) →
+pub by_names : (P : List Change → Type 0) (s : DomainState) (q : ℕ) (key : Came) (name : List ℕ) (a : ℕ) (create : Bool) → P [] → ((n : EndName) → P (names_known q (learned n a (names_of (peer_at s q))) ∷ name_found n a ∷ [])) → ((n : EndName) → P (names_known q (forgotten n (names_of (peer_at s q))) ∷ [])) →
     P (first_row (rows s q key (announces name a create))).happens
 by_names P s q key name a create none some gone = go (endpoint_named name) create
   where
@@ -72,7 +73,7 @@ other_deaf o n p m c q foreign it = go (hears_from o n c) refl
 deaf : (o n : ℕ) (c : ChannelEnd) (q : List Item) → hears_from o n c ≡ false → heard_of o n (Some c) q ≡ None
 deaf o n c q it = rw it refl
 
-module _ (read : RepliesRead) (o n : ℕ) (s : DomainState) (p : ℕ) (key : Option ℕ) (src dst : ℕ) where
+module _ (read : RepliesRead) (o n : ℕ) (s : DomainState) (p : ℕ) (key : Came) (src dst : ℕ) where
   abbrev Fit : Row → Type 0
   Fit r = FitAll o n s r.happens
 
@@ -189,7 +190,8 @@ abbrev pub IsForeign : ℕ → ℕ → ℕ → Reading → Type 0
 IsForeign o n p (says src dst l) = (p ≡ o → IsSmall l) × (turns_on n l ≡ true → p ≡ o → ⊥)
 IsForeign o n p other = Unit {0}
 
-pub frame_fits : (read : RepliesRead) (o n : ℕ) (s : DomainState) (p : ℕ) (key : Option ℕ) (r : Reading) → IsForeign o n p r → FitAll o n s (first_row (rows s p key r)).happens
+pub frame_fits : (read : RepliesRead) (o n : ℕ) (s : DomainState) (p : ℕ) (key : Came) (r : Reading) → IsForeign o n p r → FitAll o n s (first_row (rows s p key r)).happens
 frame_fits read o n s p key (is_faulty f) foreign = tt
+frame_fits read o n s p key (brings src dst q) foreign = by_part (FitAll o n s) s p key src dst q tt
 frame_fits read o n s p key (announces name address create) foreign = by_names (FitAll o n s) s p key name address create tt (λ m. (tt, (tt, tt))) (λ m. (tt, tt))
 frame_fits read o n s p key (says src dst l) foreign = letter_fits read o n s p key src dst (endpoint_of s dst) refl l foreign.0 foreign.1

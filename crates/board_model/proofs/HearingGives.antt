@@ -1,5 +1,7 @@
 -- What a taken frame takes and loses of a channel, by its requests and its word, is what its changes do; and queues stay as they are
 -- bound to channels.
+use Rattle.board_model.specs.Deeds.{taken_change}
+use Rattle.board_model.specs.Parts.{Came}
 use Rattle.std.proofs.Common.{◌≡◌, ℕ, Bool, true, false, not, cond, List, [], ◌∷◌, ◌++◌, map, find, flat_map, length, Option, Some, None, refl, sym, ap, ◌∙◌, subst, arith}
 use Rattle.std.specs.Prelude.{◌==◌, ◌&&◌, ◌||◌, is_none}
 use Rattle.std.specs.List.{AllByRecursion, list_any}
@@ -9,7 +11,7 @@ use Rattle.byteorder.specs.Endian.{little_bytes}
 use Rattle.mc_base.specs.FullName.{endpoint_named}
 use Rattle.mc_base.specs.Letter.{PlainLetter, msg, connect, accept, reject, recv_open, send_open, packet, scalar, send_close, recv_close, bytes_of_bits}
 use Rattle.mc_base.specs.NameMap.{Names}
-use Rattle.mc_base.specs.Reading.{Reading, is_faulty, announces, says}
+use Rattle.mc_base.specs.Reading.{Reading, is_faulty, announces, says, brings}
 use Rattle.mc_base.specs.declared.name.Local.{Local}
 use Rattle.mc_base.specs.declared.name.EndName.{EndName}
 use Rattle.mc_base.specs.declared.channel.Kind.{Kind}
@@ -18,12 +20,12 @@ use Rattle.mc_base.specs.declared.channel.Side.TheVariants.{Sender, Receiver}
 use Rattle.mc_base.specs.declared.refusal.Refusal.TheVariants.{ChanClosed}
 use Rattle.mc_base.specs.declared.fate.Fate.TheVariants as fate
 use Rattle.board_model.specs.CallChanges.{at_live}
-use Rattle.board_model.specs.Change.{frame_taken, channel_set, item_queued, item_handed, connects_on, asks_for, handed_in, changed, changed_all}
+use Rattle.board_model.specs.Change.{channel_set, item_queued, item_handed, connects_on, asks_for, handed_in, changed, changed_all}
 use Rattle.board_model.specs.ChannelEnds.{same_side, same_kind, is_closed, is_connecting, hears_from, sends_to, accepted_end, far_closed_end, data_rows}
 use Rattle.board_model.specs.Channels.{is_of_channel, contents_of, data_said, is_lost}
 use Rattle.board_model.specs.State.{connected, Item, ChannelEnd, Endpoint, Asked, name_of, channel_of, message_at, packet_at, has_address, is_accepted, is_rejected, Request, DomainState, is_at, has_address_of, endpoint_of, live_at, receives_at, waits_at, one_waits, oldest_waiting, peer_at}
 use Rattle.board_model.specs.Takings.{Taking, taking, asked_address}
-use Rattle.board_model.specs.TakenFrames.{Row, last_row, first_row, row_of, connect_rows, message_rows, rows_by, channel_rows, letter_rows, message_item, channel_item, item_of, name_rows, names_of}
+use Rattle.board_model.specs.TakenFrames.{Row, last_row, first_row, row_of, connect_rows, message_rows, rows_by, channel_rows, letter_rows, message_item, channel_item, item_of, name_rows, names_of, row}
 use Rattle.board_model.proofs.ChannelWords.{end_is, hears, contents_if, taken_by, dropped_by, through}
 use Rattle.board_model.proofs.HearingItems.{one_contents, message_none, came_agrees}
 use Rattle.board_model.proofs.OrderSerials.{Differ, given_by_all}
@@ -83,9 +85,9 @@ far_bound q c bound =
 
 -- ---- rows
 
-module _ (o n : ℕ) (s : DomainState) (sound : Sound s) (differ : Differ s.requests) (peer : ℕ) (key : Option ℕ) where
+module _ (o n : ℕ) (s : DomainState) (sound : Sound s) (differ : Differ s.requests) (peer : ℕ) (key : Came) where
   abbrev now : DomainState
-  now = changed s (frame_taken peer)
+  now = changed s (taken_change peer key)
 
   -- what the frame's row keeps, takes and loses
   pub record Gives (rd : Reading) (r : Row) : Type 0 where
@@ -295,4 +297,5 @@ module _ (o n : ℕ) (s : DomainState) (sound : Sound s) (differ : Differ s.requ
   pub row_gives : (rd : Reading) → Gives rd (row_of s peer key rd)
   row_gives (is_faulty f) = idle_row (is_faulty f) _ refl refl
   row_gives (announces text address there) = names_give text (names_of (peer_at s peer)) (endpoint_named text) address there
+  row_gives (brings source destination q) = by_rows (Gives (brings source destination q)) (row (is_none key.part) fate.Stray [] ∷ last_row fate.Part []) ((λ on. idle_row (brings source destination q) _ refl refl), (λ off. idle_row (brings source destination q) _ refl refl))
   row_gives (says source destination l) = letters_give source destination (endpoint_of s destination) refl l

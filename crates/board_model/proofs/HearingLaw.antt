@@ -1,10 +1,13 @@
 -- The receiving end of a channel along a whole run: what came is what receives took, followed by what was lost and what is queued.
+use Rattle.board_model.specs.Parts.{readings, came_from, said_from}
+use Rattle.board_model.proofs.PartReadings.{Closed, readings-join}
+use Rattle.std.proofs.lemmas.List.Concat.{flat_map-append}
 use Rattle.std.proofs.Common.{◌≡◌, ◌⊎◌, inl, inr, ℕ, ◌+◌, ◌-◌, ◌≤◌, ◌<◌, ◌^◌, Bool, true, false, cond, List, [], ◌∷◌, ◌++◌, map, Option, Some, None, refl, sym, ap, ◌∙◌, subst, arith}
 use Rattle.std.specs.Prelude.{◌==◌, ◌&&◌, find}
 use Rattle.std.specs.List.{AllByRecursion, flat_map}
 use Rattle.std.proofs.lemmas.List.{append_assoc, append-nil}
 use Rattle.std.proofs.lemmas.Bool.{eqb-true, eq-eqb, cases_Bool}
-use Rattle.mc_base.specs.Reading.{reading}
+use Rattle.mc_base.specs.Reading.{reading, Reading}
 use Rattle.mc_base.specs.declared.fate.Fate.{Fate}
 use Rattle.board_model.specs.Channels.{contents_of, data_said, is_lost, lost_by, words_by, arrives}
 use Rattle.board_model.specs.ChannelEnds.{is_closed}
@@ -12,8 +15,8 @@ use Rattle.board_model.specs.Deeds.{Deed, looks_back, puts_owed, looks_ahead, ta
 use Rattle.board_model.specs.Scenario.{Neighbour}
 use Rattle.board_model.specs.State.{DomainState, opening, new_peer, endpoint_of, is_numbered}
 use Rattle.board_model.specs.Takings.{takings_by}
-use Rattle.board_model.proofs.ChannelWords.{Way, not_begun, Sent, sent_by, letters, data_of, contents, way_after, InOrder, way_of, taken_by, dropped_by, through}
-use Rattle.board_model.proofs.DeedRuns.{frames_if, puts_by, takes_by}
+use Rattle.board_model.proofs.ChannelWords.{Way, not_begun, Sent, sent_by, letters, data_of, contents, way_after, InOrder, way_of, taken_by, dropped_by, through, letters_of}
+use Rattle.board_model.proofs.DeedRuns.{frames_if, puts_by, takes_by, says_by}
 use Rattle.board_model.proofs.Hearing.{Heard, heard, Lists, more, HeardAt, NoAccept, owed_replies, Hearing, unheard, refused, heard_at}
 use Rattle.board_model.proofs.HearingDeeds.{IsSmallReading, IsSmallFrom, told_more, tell_first, deed_step}
 use Rattle.board_model.proofs.HearingGives.{row_gives}
@@ -35,9 +38,12 @@ pub way_of-append : (w : Way) (xs ys : List Sent) → way_of w (xs ++ ys) ≡ wa
 way_of-append w [] ys = refl
 way_of-append w (x ∷ xs) ys = way_of-append (way_after w x) xs ys
 
-pub letters-append : (n : ℕ) (xs ys : List (List ℕ)) → letters n (xs ++ ys) ≡ letters n xs ++ letters n ys
-letters-append n [] ys = refl
-letters-append n (x ∷ xs) ys = ap (λ l. sent_by n (reading x) ++ l) (letters-append n xs ys) ∙ sym (append_assoc (sent_by n (reading x)) (letters n xs) (letters n ys))
+pub letters_of-append : (n : ℕ) (xs ys : List Reading) → letters_of n (xs ++ ys) ≡ letters_of n xs ++ letters_of n ys
+letters_of-append n xs ys = flat_map-append (sent_by n) xs ys
+
+-- of frames, where no part is open between them
+pub letters-append : (n : ℕ) (xs ys : List (List ℕ)) → Closed xs → letters n (xs ++ ys) ≡ letters n xs ++ letters n ys
+letters-append n xs ys closed = ap (letters_of n) (readings-join xs ys closed) ∙ letters_of-append n (readings None xs) (readings None ys)
 
 pub contents-append : (xs ys : List Sent) → contents (xs ++ ys) ≡ contents xs ++ contents ys
 contents-append [] ys = refl
@@ -71,21 +77,21 @@ module _ (o n room : ℕ) (s : DomainState) (sound : Sound s) (serials : Serials
   deed_keeps (puts_owed p frame) may few = by_changes (puts_owed p frame) (tt, tt) (omega arith) few (ap (λ ts. contents_of o n (map (λ t. t.item) ts)) (none_taken s s.requests (all_old s))) refl
   deed_keeps (looks_ahead p count) may few = by_changes (looks_ahead p count) (tt, tt) (omega arith) few (ap (λ ts. contents_of o n (map (λ t. t.item) ts)) (none_taken s s.requests (all_old s))) refl
   deed_keeps (takes p name frame word) may few =
-      let gives = row_gives o n s sound serials.differ p name (reading frame) in
-      by_changes (takes p name frame word) (tt, gives.fits) (omega (arith, gives.few)) few gives.taken (ap (λ x. cond (is_lost x && p == o) (data_said n (reading frame)) []) (sym may) ∙ gives.lost)
+      let gives = row_gives o n s sound serials.differ p (came_from s p name frame) (said_from s p frame) in
+      by_changes (takes p name frame word) (tt, gives.fits) (omega (arith, gives.few)) few gives.taken (ap (λ x. cond (is_lost x && p == o) (data_said n (said_from s p frame)) []) (sym may) ∙ gives.lost)
   deed_keeps (calls node call a) may few =
       let yields = call_yields o n s sound serials.below node call a may in
       by_changes (calls node call a) yields.fits yields.few few yields.taken yields.lost
 
 -- ---- a run
 
-abbrev pub came_on : ℕ → ℕ → List Deed → List (List ℕ)
-came_on o n ds = contents (letters n (flat_map (takes_by o) ds))
+abbrev pub came_on : ℕ → ℕ → DomainState → List Deed → List (List ℕ)
+came_on o n s ds = contents (letters_of n (along (says_by o) s ds))
 
 -- all that came, was taken and lost, was put to the owner, and the words of the data
 abbrev pub by_run : ℕ → ℕ → DomainState → List Deed → Lists → Lists
 by_run o n s ds h = record {
-  came = h.came ++ came_on o n ds;
+  came = h.came ++ came_on o n s ds;
   taken = h.taken ++ along (takes_on o n) s ds;
   lost = h.lost ++ along (lost_by o n) s ds;
   told = h.told ++ along (puts_by o) s ds;
@@ -102,30 +108,30 @@ joined_run h a b c d x y z u v q = simp append_assoc
 -- what is known after a run
 pub record Ran (o n : ℕ) (s : DomainState) (w : Way) (h : Lists) (ds : List Deed) : Type 0 where
   pub sound : Sound (after_deeds s ds)
-  pub hearing : Hearing o n (way_of w (letters n (flat_map (takes_by o) ds))) (by_run o n s ds h) (after_deeds s ds)
+  pub hearing : Hearing o n (way_of w (letters_of n (along (says_by o) s ds))) (by_run o n s ds h) (after_deeds s ds)
 
-pub run_hearing : (o n room : ℕ) (s : DomainState) (w : Way) (h : Lists) (ds : List Deed) → AllMayDo s ds → Sound s → Serials room s → all_succeed ds ≤ room → AllByRecursion (IsSmallFrom o) ds → InOrder w (letters n (flat_map (takes_by o) ds)) → Hearing o n w h s → Ran o n s w h ds
+pub run_hearing : (o n room : ℕ) (s : DomainState) (w : Way) (h : Lists) (ds : List Deed) → AllMayDo s ds → Sound s → Serials room s → all_succeed ds ≤ room → AllByRecursion (IsSmallFrom o) ds → InOrder w (letters_of n (along (says_by o) s ds)) → Hearing o n w h s → Ran o n s w h ds
 run_hearing o n room s w h [] may sound serials few small order hearing = record { sound = sound; hearing = subst (λ k. Hearing o n w k s) (sym (no_run o n s h)) hearing }
 run_hearing o n room s w h (d ∷ ds) may sound serials few small order hearing =
-    let here = takes_by o d in
-    let later = flat_map (takes_by o) ds in
-    let split = letters-append n here later in
-    let parts = in_order-parts w (letters n here) (letters n later) (subst (InOrder w) split order) in
+    let here = says_by o s d in
+    let later = along (says_by o) (after_deed s d) ds in
+    let split = letters_of-append n here later in
+    let parts = in_order-parts w (letters_of n here) (letters_of n later) (subst (InOrder w) split order) in
     let keeps = deed_keeps o n room s sound serials d may.0 (omega arith) in
     let told = words_first replies_read o n s w (told_more h (puts_by o s d)) d may.0 parts.0 (tell_first replies_read o n s w h d may.0 hearing) in
     let known : Lists = words_more (told_more h (puts_by o s d)) (words_by o n s d) in
     let done = deed_step replies_read o n s w known d (sound_own s sound) (sound_quiet s sound) small.0 parts.0 told in
-    let now = subst (λ xs. Hearing o n (way_of w (letters n here)) (more known (contents (letters n here)) xs (lost_by o n s d)) (after_deed s d)) (sym keeps.taken)
-    (subst (λ xs. Hearing o n (way_of w (letters n here)) (more known (contents (letters n here)) (through (taken_by o n) s (happens_by s d)) xs) (after_deed s d)) (sym keeps.lost) done) in
-    let rest = run_hearing o n (room - succeeds d) (after_deed s d) (way_of w (letters n here)) _ ds may.1 keeps.sound keeps.serials (omega arith) small.1 parts.1 now in
+    let now = subst (λ xs. Hearing o n (way_of w (letters_of n here)) (more known (contents (letters_of n here)) xs (lost_by o n s d)) (after_deed s d)) (sym keeps.taken)
+    (subst (λ xs. Hearing o n (way_of w (letters_of n here)) (more known (contents (letters_of n here)) (through (taken_by o n) s (happens_by s d)) xs) (after_deed s d)) (sym keeps.lost) done) in
+    let rest = run_hearing o n (room - succeeds d) (after_deed s d) (way_of w (letters_of n here)) _ ds may.1 keeps.sound keeps.serials (omega arith) small.1 parts.1 now in
     let whole : List (List ℕ) → Lists = λ c. record { came = h.came ++ c; taken = h.taken ++ along (takes_on o n) s (d ∷ ds); lost = h.lost ++ along (lost_by o n) s (d ∷ ds); told = h.told ++ along (puts_by o) s (d ∷ ds); words = h.words ++ along (words_by o n) s (d ∷ ds) } in
     record {
       sound = rest.sound;
       hearing =
           subst (λ k. Hearing o n (way_of w k) (whole (contents k)) (after_deeds s (d ∷ ds))) (sym split)
-          (subst (λ v. Hearing o n v (whole (contents (letters n here ++ letters n later))) (after_deeds s (d ∷ ds))) (sym (way_of-append w (letters n here) (letters n later)))
-          (subst (λ c. Hearing o n (way_of (way_of w (letters n here)) (letters n later)) (whole c) (after_deeds s (d ∷ ds))) (sym (contents-append (letters n here) (letters n later)))
-          (subst (λ k. Hearing o n (way_of (way_of w (letters n here)) (letters n later)) k (after_deeds s (d ∷ ds))) (joined_run h _ _ _ _ _ _ _ _ _ _) rest.hearing)));
+          (subst (λ v. Hearing o n v (whole (contents (letters_of n here ++ letters_of n later))) (after_deeds s (d ∷ ds))) (sym (way_of-append w (letters_of n here) (letters_of n later)))
+          (subst (λ c. Hearing o n (way_of (way_of w (letters_of n here)) (letters_of n later)) (whole c) (after_deeds s (d ∷ ds))) (sym (contents-append (letters_of n here) (letters_of n later)))
+          (subst (λ k. Hearing o n (way_of (way_of w (letters_of n here)) (letters_of n later)) k (after_deeds s (d ∷ ds))) (joined_run h _ _ _ _ _ _ _ _ _ _) rest.hearing)));
     }
 
 -- ---- from the opening
@@ -134,7 +140,7 @@ run_hearing o n room s w h (d ∷ ds) may sound serials few small order hearing 
 -- queued; or what came is what was taken, and after it what was lost and what is queued, not both of which there are
 pub data Received (o n : ℕ) (start : DomainState) (ds : List Deed) : Type 0 where
   unaccepted : NoAccept n (along (puts_by o) start ds) → along (takes_on o n) start ds ≡ [] → along (lost_by o n) start ds ≡ [] → queued_on o n (after_deeds start ds) ≡ [] → Received o n start ds
-  accepted : came_on o n ds ≡ along (takes_on o n) start ds ++ (along (lost_by o n) start ds ++ queued_on o n (after_deeds start ds)) → (along (lost_by o n) start ds ≡ []) ⊎ (queued_on o n (after_deeds start ds) ≡ []) →
+  accepted : came_on o n start ds ≡ along (takes_on o n) start ds ++ (along (lost_by o n) start ds ++ queued_on o n (after_deeds start ds)) → (along (lost_by o n) start ds ≡ []) ⊎ (queued_on o n (after_deeds start ds) ≡ []) →
       AllByRecursion (λ w. arrives w ≡ true) (along (words_by o n) start ds) → Received o n start ds
 
 no_replies : (n : ℕ) (neighbours : List Neighbour) (p : ℕ) → NoAccept n (owed_replies (find (is_numbered p) (map new_peer neighbours)))
@@ -188,8 +194,8 @@ module _ (o n number nodes : ℕ) (neighbours : List Neighbour) (ds : List Deed)
           (elim (cases_Bool (is_closed x.end.stage)) [ inl shut ↦ inr (queue ∙ ap (map (λ i. i.content)) (live.none_queued shut)) | inr open_end ↦ inl (live.none_lost open_end) ])
           arrived
 
-  pub received : AllMayDo start ds → AllByRecursion IsSmallFrame (flat_map (takes_by o) ds) → all_succeed ds + 1 < 2 ^ 64 → InOrder not_begun (letters n (flat_map (takes_by o) ds)) → Received o n start ds
+  pub received : AllMayDo start ds → AllByRecursion IsSmallFrame (flat_map (takes_by o) ds) → all_succeed ds + 1 < 2 ^ 64 → InOrder not_begun (letters_of n (along (says_by o) start ds)) → Received o n start ds
   received may small few order =
       let serials : Serials (all_succeed ds) start = record { differ = tt; below = tt; small = omega arith } in
       let ran = run_hearing o n (all_succeed ds) start not_begun nothing_yet ds may (opening_sound number nodes neighbours) serials (omega arith) (small_deeds o ds small) order (unheard (λ b. refl) (tt, no_replies n neighbours o) refl refl refl refl refl) in
-      ended (way_of not_begun (letters n (flat_map (takes_by o) ds))) ran.sound ran.hearing
+      ended (way_of not_begun (letters_of n (along (says_by o) start ds))) ran.sound ran.hearing

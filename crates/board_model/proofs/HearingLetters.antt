@@ -1,4 +1,5 @@
 -- What the letters of a channel do to its receiving end: the connect, data, and the sender's close.
+use Rattle.board_model.specs.Parts.{Came}
 use Rattle.std.proofs.Common.{◌≡◌, ℕ, Bool, true, false, not, cond, List, [], ◌∷◌, ◌++◌, map, length, Option, Some, None, refl, sym, ap, ◌∙◌, subst}
 use Rattle.std.specs.Prelude.{◌==◌, ◌&&◌}
 use Rattle.std.proofs.lemmas.Bool.{and_parts, eq-eqb}
@@ -97,7 +98,7 @@ is_kind k l e = subst (λ x. same_kind x k ≡ true) e (itself k)
     itself Packet = refl
     itself Scalar = refl
 
-module _ (read : RepliesRead) (o n : ℕ) (s : DomainState) (key : Option ℕ) (src dst : ℕ) (h : Lists) where
+module _ (read : RepliesRead) (o n : ℕ) (s : DomainState) (key : Came) (src dst : ℕ) (h : Lists) where
   -- what is known after a row, of a letter with this content
   abbrev After : Way → List (List ℕ) → Row → Type 0
   After w brought r = Hearing o n w (more h brought (through (taken_by o n) s r.happens) (through (dropped_by o n) s r.happens)) (changed_all s r.happens)

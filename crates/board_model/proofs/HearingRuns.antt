@@ -6,7 +6,7 @@ use Rattle.std.proofs.lemmas.Bool.{eqb-true, eqb-false, eq-eqb, ne_eqb, cases_Bo
 use Rattle.board_model.proofs.Hearing.{Heard, heard, Lists, more, HeardAt, accepts, NoAccept, owed_replies, NoneHears, Hearing, unheard, refused, heard_at, Moves, stays, comes, passes, loses, gives, turns, shuts, ends, heard_moves, nothing}
 use Rattle.board_model.proofs.HearingChanges.{Fits, Happens, happens}
 use Rattle.board_model.proofs.ChannelWords.{Way, taken_by, through, dropped_by}
-use Rattle.board_model.specs.Change.{buffers_back, frames_shown, frame_taken, Change, end_announced, reply_owed, owed_put, names_known, buffer_used, also_owed, first_put, changed, changed_all}
+use Rattle.board_model.specs.Change.{buffers_back, frames_shown, frame_taken, Change, end_announced, reply_owed, owed_put, names_known, buffers_used, also_owed, first_put, changed, changed_all}
 use Rattle.board_model.specs.Lists.{changed_first}
 use Rattle.board_model.specs.State.{Reply, replying, Peer, DomainState, endpoint_of, peer_at, is_numbered, Announcement}
 use Rattle.mc_base.specs.Reading.{reading}
@@ -66,9 +66,9 @@ still_silent o n s (reply_owed p f) fits none = peers_silent n p o (λ x. record
 still_silent o n s (owed_put p) fits none = peers_silent n p o first_put told_number (λ x is k. told_silent n x k) s.peers none
 still_silent o n s (buffers_back p count) fits none = peers_silent n p o (λ x. record x { free = x.free + count }) (λ x. refl) (λ x is k. k) s.peers none
 still_silent o n s (frames_shown p count) fits none = peers_silent n p o (λ x. record x { shown = count }) (λ x. refl) (λ x is k. k) s.peers none
-still_silent o n s (frame_taken p) fits none = peers_silent n p o (λ x. record x { shown = x.shown - 1 }) (λ x. refl) (λ x is k. k) s.peers none
+still_silent o n s (frame_taken p part names) fits none = peers_silent n p o (λ x. record x { shown = x.shown - 1; part = part }) (λ x. refl) (λ x is k. k) s.peers none
 still_silent o n s (names_known p names) fits none = peers_silent n p o (λ x. record x { known = names }) (λ x. refl) (λ x is k. k) s.peers none
-still_silent o n s (buffer_used p) fits none = peers_silent n p o (λ x. record x { free = x.free - 1 }) (λ x. refl) (λ x is k. k) s.peers none
+still_silent o n s (buffers_used p count) fits none = peers_silent n p o (λ x. record x { free = x.free - count }) (λ x. refl) (λ x is k. k) s.peers none
 still_silent o n s other fits none = none
 
 -- ---- one change

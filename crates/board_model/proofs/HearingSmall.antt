@@ -1,4 +1,5 @@
 -- The numbers of the Connects that a domain puts fit: a domain numbers 65,535 channels at most, and a frame that it owes is no Connect.
+use Rattle.board_model.proofs.PartLetters.{each-put, each-frame}
 use Rattle.std.proofs.Common.{◌≡◌, ℕ, ◌<◌, ◌^◌, Bool, true, false, List, [], ◌∷◌, map, Option, None, Some, sym, subst, arith}
 use Rattle.std.specs.Prelude.{is_none, ◌==◌}
 use Rattle.std.specs.List.{AllByRecursion}
@@ -7,7 +8,7 @@ use Rattle.mc_base.specs.Fault.{fault}
 use Rattle.mc_base.specs.Frame.{made}
 use Rattle.mc_base.specs.Reading.{Reading, reading}
 use Rattle.mc_base.specs.declared.channel.Reason.{Reason}
-use Rattle.board_model.specs.Answer.{channel_limit, Post, puts}
+use Rattle.board_model.specs.Answer.{channel_limit, Post, puts, puts_of}
 use Rattle.board_model.specs.Deeds.{Deed, looks_back, puts_owed, looks_ahead, takes, calls, MayDo, AllMayDo, after_deed, along}
 use Rattle.board_model.specs.State.{letter_by, Announcement, Reply, Peer, DomainState, announcing, replying, owed_to}
 use Rattle.board_model.proofs.DeedRuns.{frames_if, puts_by}
@@ -64,8 +65,8 @@ owed_small d p = all-append IsSmallFrame (map (announcing d) p.announcements) (m
 
 -- ---- deeds
 
-sent_small : (s : DomainState) (p : Post) → MaySend s p.letter → IsSmallFrame (made p.source p.destination (spelling p.letter))
-sent_small s p may = letter_small p.source p.destination p.letter (go p.letter may)
+sent_small : (s : DomainState) (p : Post) → MaySend s p.letter → AllByRecursion (λ (q : ℕ × List ℕ). IsSmallFrame q.1) (puts_of p)
+sent_small s p may = each-put IsSmallFrame p (each-frame IsSmallReading p.source p.destination p.letter (letter_small p.source p.destination p.letter (go p.letter may)) (λ w. tt) (λ a d q. tt))
   where
     go : (l : PlainLetter) → MaySend s l → IsSmall l
     go (connect m kind) sends = let few : s.channels_given < channel_limit = sends.1 in omega (arith, sends.0)

@@ -1,10 +1,11 @@
 -- The words of data: where the receiver's end of a channel is there, each item that comes is lost, handed or queued.
+use Rattle.board_model.specs.Parts.{Came, came_from, said_from}
 use Rattle.std.proofs.Common.{◌≡◌, ℕ, Bool, true, false, cond, List, [], ◌∷◌, ◌++◌, map, Option, Some, None, refl, sym, ap, ◌∙◌, subst}
 use Rattle.std.specs.Prelude.{◌==◌}
 use Rattle.std.specs.List.{flat_map}
 use Rattle.std.proofs.lemmas.Bool.{eqb-true}
 use Rattle.mc_base.specs.Letter.{PlainLetter, packet, scalar}
-use Rattle.mc_base.specs.Reading.{Reading, is_faulty, announces, says, reading}
+use Rattle.mc_base.specs.Reading.{Reading, is_faulty, announces, says, brings}
 use Rattle.mc_base.specs.declared.channel.Kind.{Kind}
 use Rattle.mc_base.specs.declared.channel.Kind.TheVariants.{Packet, Scalar}
 use Rattle.mc_base.specs.declared.fate.Fate.{Fate}
@@ -14,15 +15,15 @@ use Rattle.board_model.specs.ChannelEnds.{data_rows, hears_from, same_kind}
 use Rattle.board_model.specs.Deeds.{Deed, looks_back, puts_owed, looks_ahead, takes, calls, MayDo}
 use Rattle.board_model.specs.State.{Item, ChannelEnd, Endpoint, DomainState, endpoint_of}
 use Rattle.board_model.specs.TakenFrames.{row_of, last_row, rows_by, item_of}
-use Rattle.board_model.proofs.ChannelWords.{Way, not_begun, goes_to, is_over, Sent, sent_by, letters, Follows, InOrder}
-use Rattle.board_model.proofs.DeedRuns.{frames_if, takes_by}
+use Rattle.board_model.proofs.ChannelWords.{Way, not_begun, goes_to, is_over, Sent, sent_by, Follows, InOrder, letters_of}
+use Rattle.board_model.proofs.DeedRuns.{says_by}
 use Rattle.board_model.proofs.Hearing.{AllArrive, Heard, heard, Lists, HeardAt, Hearing, unheard, refused, heard_at}
 use Rattle.board_model.proofs.HearingFrames.{RepliesRead}
 use Rattle.board_model.proofs.HearingLetters.{going, who_hears, three_of, is_kind, row_at_end, row_at_channel, data_row, packet_row, scalar_row}
 use Rattle.board_model.proofs.LaneRows.{by_rows}
 
 module _ (read : RepliesRead) (o n : ℕ) (s : DomainState) (w : Way) (h : Lists) (b : ℕ) (have : HeardAt b w h (heard o n (endpoint_of s b))) where
-  module _ (key : Option ℕ) (src dst : ℕ) where
+  module _ (key : Came) (src dst : ℕ) where
     -- the word of an item of the channel
     data_arrives : (k : Kind) (i : Item) (a : ℕ) → dst ≡ a → goes_to a k ≡ w → arrives (data_row read o n s key src dst h k i (endpoint_of s dst)).word ≡ true
     data_arrives k i a at way = go (heard o n (endpoint_of s b)) refl (subst (λ v. HeardAt b v h (heard o n (endpoint_of s b))) (sym way) have)
@@ -67,19 +68,20 @@ module _ (read : RepliesRead) (o n : ℕ) (s : DomainState) (w : Way) (h : Lists
             let number : m ≡ n = eqb-true m n same in
             (subst (λ x. arrives x ≡ true) is (subst (λ k. arrives (row_of s o key (says src dst (f k))).word ≡ true) (sym number) (arrives_so w refl (subst (λ k. Follows w (sent_so (f k))) number ordered.0))), tt)
 
-  frame_words : (key : Option ℕ) (r : Reading) (word : Fate) → (row_of s o key r).word ≡ word → InOrder w (sent_by n r ++ []) → AllArrive (map (λ c. word) (data_said n r))
+  frame_words : (key : Came) (r : Reading) (word : Fate) → (row_of s o key r).word ≡ word → InOrder w (sent_by n r ++ []) → AllArrive (map (λ c. word) (data_said n r))
   frame_words key (says src dst (packet m content)) word is order = by_number key src dst (λ k. packet k content) content m word (packet_arrives key src dst content) is order
   frame_words key (says src dst (scalar m bits value)) word is order = by_number key src dst (λ k. scalar k bits value) _ m word (scalar_arrives key src dst bits value) is order
   frame_words key (is_faulty f) word is order = tt
+  frame_words key (brings src dst q) word is order = tt
   frame_words key (announces text address there) word is order = tt
   frame_words key (says src dst other) word is order = tt
 
   -- one deed, where the end is there
-  deed_words : (d : Deed) → MayDo s d → InOrder w (letters n (takes_by o d)) → AllArrive (words_by o n s d)
+  deed_words : (d : Deed) → MayDo s d → InOrder w (letters_of n (says_by o s d)) → AllArrive (words_by o n s d)
   deed_words (takes p name frame word) may order = go (p == o) refl order
     where
-      go : (c : Bool) → (p == o) ≡ c → InOrder w (letters n (frames_if c (frame ∷ []))) → AllArrive (cond c (map (λ k. word) (data_said n (reading frame))) [])
-      go true is ordered = frame_words name (reading frame) word (subst (λ q. (row_of s q name (reading frame)).word ≡ word) (eqb-true p o is) may) ordered
+      go : (c : Bool) → (p == o) ≡ c → InOrder w (letters_of n (cond c (said_from s p frame ∷ []) [])) → AllArrive (cond c (map (λ k. word) (data_said n (said_from s p frame))) [])
+      go true is ordered = frame_words (came_from s p name frame) (said_from s p frame) word (subst (λ q. (row_of s q (came_from s p name frame) (said_from s p frame)).word ≡ word) (eqb-true p o is) may) ordered
       go false is ordered = tt
   deed_words (looks_back p count) may order = tt
   deed_words (puts_owed p frame) may order = tt
@@ -108,21 +110,22 @@ no_data n w way (says src dst (scalar m bits value)) order = at_number (m == n) 
     at_number true x ordered = absurd (subst (λ v. Follows v (record { source = src; destination = dst; letter = scalar m bits value })) way ordered.0)
     at_number false x ordered = refl
 no_data n w way (is_faulty f) order = refl
+no_data n w way (brings src dst q) order = refl
 no_data n w way (announces text address there) order = refl
 no_data n w way (says src dst other) order = refl
 
-no_words : (o n : ℕ) (s : DomainState) (w : Way) (d : Deed) → w ≡ not_begun → InOrder w (letters n (takes_by o d)) → words_by o n s d ≡ []
+no_words : (o n : ℕ) (s : DomainState) (w : Way) (d : Deed) → w ≡ not_begun → InOrder w (letters_of n (says_by o s d)) → words_by o n s d ≡ []
 no_words o n s w (takes p name frame word) way order = go (p == o) order
   where
-    go : (c : Bool) → InOrder w (letters n (frames_if c (frame ∷ []))) → cond c (map (λ k. word) (data_said n (reading frame))) [] ≡ []
-    go true ordered = ap (map (λ k. word)) (no_data n w way (reading frame) ordered)
+    go : (c : Bool) → InOrder w (letters_of n (cond c (said_from s p frame ∷ []) [])) → cond c (map (λ k. word) (data_said n (said_from s p frame))) [] ≡ []
+    go true ordered = ap (map (λ k. word)) (no_data n w way (said_from s p frame) ordered)
     go false ordered = refl
 no_words o n s w (looks_back p count) way order = refl
 no_words o n s w (puts_owed p frame) way order = refl
 no_words o n s w (looks_ahead p count) way order = refl
 no_words o n s w (calls node call a) way order = refl
 
-pub words_first : (read : RepliesRead) (o n : ℕ) (s : DomainState) (w : Way) (h : Lists) (d : Deed) → MayDo s d → InOrder w (letters n (takes_by o d)) → Hearing o n w h s → Hearing o n w (words_more h (words_by o n s d)) s
+pub words_first : (read : RepliesRead) (o n : ℕ) (s : DomainState) (w : Way) (h : Lists) (d : Deed) → MayDo s d → InOrder w (letters_of n (says_by o s d)) → Hearing o n w h s → Hearing o n w (words_more h (words_by o n s d)) s
 words_first read o n s w h d may order (unheard none silent way came taken lost words) = unheard none silent way came taken lost (rw (words, no_words o n s w d way order) refl)
 words_first read o n s w h d may order (refused none silent begun taken lost) = refused none silent begun taken lost
 words_first read o n s w h d may order (heard_at a others arrived at) = heard_at a others (all_two h.words _ arrived (deed_words read o n s w h a at d may order)) (go (heard o n (endpoint_of s a)) at)

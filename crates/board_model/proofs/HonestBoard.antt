@@ -6,7 +6,7 @@ use Rattle.std.specs.List.{AllByRecursion, flat_map}
 use Rattle.std.proofs.lemmas.Bool.{eqb-true, eq-eqb}
 use Rattle.mc_base.specs.NameMap.{Names, has_name, address_in}
 use Rattle.mc_base.specs.Letter.{connect}
-use Rattle.mc_base.specs.Reading.{Reading, is_faulty, announces, says, reading}
+use Rattle.mc_base.specs.Reading.{Reading, is_faulty, announces, says, reading, brings}
 use Rattle.mc_base.specs.declared.name.EndName.{EndName}
 use Rattle.board_model.specs.declared.scenario.DomainLine.{DomainLine}
 use Rattle.board_model.specs.declared.scenario.Scenario.{Scenario}
@@ -109,6 +109,7 @@ module _ (s : Scenario) (js : List DomainJournal) (board : IsLinkedBoard s) (run
   heard q (is_faulty w) honest = tt
   heard q (announces text a there) honest = honest
   heard q (says src dst l) honest = tt
+  heard q (brings src dst p) honest = tt
 
   -- and a Connect comes from a real address
   heard_far : (q : ℕ) (r : Reading) → Honest (made_at q) r → HearsFar may_know q r
@@ -116,6 +117,7 @@ module _ (s : Scenario) (js : List DomainJournal) (board : IsLinkedBoard s) (run
   heard_far q (announces text a there) honest = tt
   heard_far q (says src dst (connect m kind)) honest = honest
   heard_far q (says src dst other) honest = tt
+  heard_far q (brings src dst p) honest = tt
 
   hears_all : (H : ℕ → Reading → Type 0) → ((q : ℕ) (r : Reading) → Honest (made_at q) r → H q r) → (ns : List ℕ) (ds : List Deed) → AllByRecursion (IsFrom ns) ds → ((q : ℕ) → IsOnce ns q → AllByRecursion (λ f. Honest (made_at q) (reading f)) (flat_map (takes_by q) ds)) → AllByRecursion (OfTaken H) ds
   hears_all H hear ns [] from all = tt

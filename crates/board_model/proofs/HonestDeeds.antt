@@ -1,12 +1,15 @@
 -- Each deed keeps what holds of a domain, and what a deed puts is honest, whatever the domain takes.
+use Rattle.board_model.proofs.PartReadings.{coming-holds}
+use Rattle.board_model.proofs.PartLetters.{each-frame, each-put}
+use Rattle.board_model.specs.Parts.{Came, came_from, said_from, part_of}
 use Rattle.std.proofs.Common.{◌≡◌, ℕ, ◌+◌, ◌≤◌, ◌<◌, ◌⊎◌, inl, inr, Bool, false, not, cond, List, [], ◌∷◌, map, Option, Some, None, refl, sym, ◌∙◌, subst, arith}
 use Rattle.std.specs.Prelude.{find, ◌==◌, nat_lt, is_some, option_map, unwrap_or}
-use Rattle.std.specs.List.{AllByRecursion}
+use Rattle.std.specs.List.{AllByRecursion, flat_map}
 use Rattle.std.proofs.lemmas.Bool.{cond_both, leb-false, eqb-true}
 use Rattle.mc_base.specs.Limits.{creation_limit}
 use Rattle.mc_base.specs.NameMap.{Names, rank, has_name, learned}
-use Rattle.mc_base.specs.Reading.{Reading, announces, reading}
-use Rattle.mc_base.specs.Letter.{PlainLetter, accept, reject, packet, scalar, send_close}
+use Rattle.mc_base.specs.Reading.{Reading, announces, reading, says}
+use Rattle.mc_base.specs.Letter.{PlainLetter, accept, reject, packet, scalar, send_close, Carrier, of_message, of_packet, carried}
 use Rattle.mc_base.specs.declared.channel.Side.{Side}
 use Rattle.mc_base.specs.declared.channel.Side.TheVariants.{Sender, Receiver}
 use Rattle.mc_base.specs.declared.name.EndName.{EndName}
@@ -18,14 +21,14 @@ use Rattle.board_model.specs.State.{Item, ChannelEnd, Endpoint, Announcement, Re
 use Rattle.board_model.specs.Change.{Change, item_queued, item_handed, item_lost, packet_lent, names_known, name_found, changed_all}
 use Rattle.board_model.specs.TakenFrames.{Row, names_of, rejecting, accepting, acting, item_of, row_of}
 use Rattle.board_model.specs.Messages.{said_by}
-use Rattle.board_model.specs.Answer.{first_complete, local, holds, words_of, refusal, unless_refused, channel_at, channel_limit, over_channel, opening_letter, closing_letter, Post, put_of, success_posts, success_puts, puts}
+use Rattle.board_model.specs.Answer.{first_complete, local, holds, words_of, refusal, unless_refused, channel_at, channel_limit, over_channel, opening_letter, closing_letter, Post, puts_of, success_posts, success_puts, puts}
 use Rattle.board_model.specs.CallChanges.{at_live, closing, lending, lent_by_test, success_changes}
 use Rattle.board_model.specs.Deeds.{Deed, looks_back, puts_owed, looks_ahead, takes, calls, happens_by, after_deed, MayDo}
 use Rattle.board_model.proofs.DeedRuns.{frames_if, frames_to, puts_by}
 use Rattle.board_model.proofs.ListsApart.{all-map}
 use Rattle.board_model.proofs.MessageAlls.{none-passes, all-append, all-filter, all-found, all-weaken, found-passes}
 use Rattle.board_model.proofs.MessageLists.{get-position, some-position}
-use Rattle.board_model.proofs.LaneRows.{Deals, stays, learns, forgets, hands, queues, loses, rejects, accepts, acts, row-deals}
+use Rattle.board_model.proofs.LaneRows.{Deals, stays, strays, awaits, learns, forgets, hands, queues, loses, rejects, accepts, acts, row-deals}
 use Rattle.board_model.proofs.StateEnds.{there_is, end-holds, tested-are}
 use Rattle.board_model.proofs.HonestFrames.{HonestLetter, Honest, letter_honest, announcing_honest, announcing_silent, replying_replies, reply_honest, reply_silent}
 use Rattle.board_model.proofs.HonestSound.{own, PeerSound, Sound, FitAll, given_changes, sound_changes}
@@ -40,6 +43,10 @@ Hears known q (announces text a there) = known q a
 Hears known q other = Unit {0}
 
 -- what is asked of each frame that is taken, by its peer
+pub heard_carried : (known : ℕ → ℕ → Type 0) (q a d : ℕ) (k : Carrier) (bytes : List ℕ) → Hears known q (says a d (carried k bytes))
+heard_carried known q a d (of_message priority) bytes = tt
+heard_carried known q a d (of_packet channel) bytes = tt
+
 abbrev pub OfTaken : (ℕ → Reading → Type 0) → Deed → Type 0
 OfTaken H (takes q name frame word) = H q (reading frame)
 OfTaken H other = Unit {0}
@@ -93,7 +100,7 @@ module _ (made : ℕ) (known : ℕ → ℕ → Type 0) (ns : List ℕ) where
     acts_fit t at left (send_close n) = (tt, (tt, tt))
     acts_fit t at left other = (tt, tt)
 
-    frame_fits : (t : DomainState) (q : ℕ) (name : Option ℕ) (r : Reading) → Hears known q r → RowFits t (row_of s q name r)
+    frame_fits : (t : DomainState) (q : ℕ) (name : Came) (r : Reading) → Hears known q r → RowFits t (row_of s q name r)
     frame_fits t q name r hears = go (row-deals s q name r)
       where
         by : (cs : List Change) → (row_of s q name r).happens ≡ cs → FitAll made known ns t cs → FitAll made known ns t (row_of s q name r).happens
@@ -101,6 +108,8 @@ module _ (made : ℕ) (known : ℕ → ℕ → Type 0) (ns : List ℕ) where
 
         go : Deals s q name r (row_of s q name r) → FitAll made known ns t (row_of s q name r).happens
         go (stays happens word) = by [] happens tt
+        go (strays source at p is none happens word) = by [] happens tt
+        go (awaits source at p is some happens word) = by [] happens tt
         go (learns text n a names is learned_so happens word) =
             by (names_known q names ∷ name_found n a ∷ []) happens (subst (KnownOf q) (sym learned_so) (learned_known q n a (names_of (peer_at s q)) (subst (Hears known q) is hears) (names_known_of q)), (tt, tt))
         go (forgets text n a names is forgotten_so happens word) =
@@ -165,7 +174,7 @@ module _ (made : ℕ) (known : ℕ → ℕ → Type 0) (ns : List ℕ) where
     deed_fits (looks_back q n) hears within = (tt, tt)
     deed_fits (puts_owed q frame) hears within = (tt, tt)
     deed_fits (looks_ahead q n) hears within = (tt, tt)
-    deed_fits (takes q name frame word) hears within = (tt, frame_fits _ q name (reading frame) hears)
+    deed_fits (takes q name frame word) hears within = (tt, frame_fits _ q (came_from s q name frame) (said_from s q frame) (coming-holds (Hears known q) (λ a d k bytes. heard_carried known q a d k bytes) (λ a d p. tt) (part_of s q) (reading frame) hears))
     deed_fits (calls node call a) hears within = call_fits node call (refusal s node call) refl within
 
     pub sound_deed : (d : Deed) → HearsDeed known d → (after_deed s d).endpoints_given ≤ made → Sound made known ns (after_deed s d)
@@ -235,9 +244,10 @@ module _ (made : ℕ) (known : ℕ → ℕ → Type 0) (ns : List ℕ) where
     deed_honest q (puts_owed p frame) few within may = cond_both (p == q) (frame ∷ []) [] (AllByRecursion (λ f. Honest made (reading f))) (λ k. ((owed_well p frame few may).honest, tt)) (λ k. tt)
     deed_honest q (calls node call a) few within may = to_one (puts s node call) (by (refusal s node call) refl)
       where
-        all_honest : (ps : List Post) → AllByRecursion (λ p. HonestLetter made p.source p.letter) ps → AllByRecursion (λ (x : ℕ × List ℕ). Honest made (reading x.1)) (map put_of ps)
+        all_honest : (ps : List Post) → AllByRecursion (λ p. HonestLetter made p.source p.letter) ps → AllByRecursion (λ (x : ℕ × List ℕ). Honest made (reading x.1)) (flat_map puts_of ps)
         all_honest [] all = tt
-        all_honest (x ∷ xs) all = (letter_honest made x.source x.destination x.letter few all.0, all_honest xs all.1)
+        all_honest (x ∷ xs) all = all-append (λ (y : ℕ × List ℕ). Honest made (reading y.1)) (puts_of x) (flat_map puts_of xs)
+            (each-put (λ f. Honest made (reading f)) x (each-frame (Honest made) x.source x.destination x.letter (letter_honest made x.source x.destination x.letter few all.0) (λ w. tt) (λ s d q. tt))) (all_honest xs all.1)
 
         -- a raw frame announces and connects nothing
         success_honest : (c : DomainCall) → NoWord s node c → AllByRecursion (λ (x : ℕ × List ℕ). Honest made (reading x.1)) (success_puts s node c)

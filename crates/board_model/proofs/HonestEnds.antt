@@ -1,10 +1,12 @@
 -- What a domain's ends of channels know of their far ends is as what it took says: an address that may be known of the peer, and the
 -- number of a channel.
+use Rattle.board_model.proofs.PartReadings.{coming-holds}
+use Rattle.board_model.specs.Parts.{Came, came_from, said_from, part_of}
 use Rattle.std.proofs.Common.{◌≡◌, ℕ, ◌≤◌, ◌<◌, Bool, true, false, not, ◌&&◌, cond, List, [], ◌∷◌, ◌++◌, drop, Option, Some, None, refl, sym, ap, subst, arith}
 use Rattle.std.specs.Prelude.{find, ◌==◌, is_some, option_map, unwrap_or}
 use Rattle.std.specs.List.{AllByRecursion}
 use Rattle.std.proofs.lemmas.Bool.{leb-false, eqb-true}
-use Rattle.mc_base.specs.Letter.{PlainLetter, connect, accept, reject, recv_open, send_open, packet, scalar, send_close, recv_close, IsChannel}
+use Rattle.mc_base.specs.Letter.{PlainLetter, connect, accept, reject, recv_open, send_open, packet, scalar, send_close, recv_close, IsChannel, Carrier, of_message, of_packet, carried}
 use Rattle.mc_base.specs.NameMap.{Names, has_name, address_in}
 use Rattle.mc_base.specs.Reading.{Reading, says, reading}
 use Rattle.mc_base.specs.declared.fate.Fate.{Fate}
@@ -25,7 +27,7 @@ use Rattle.board_model.specs.TakenFrames.{rejecting, accepting, acting, item_of,
 use Rattle.board_model.specs.Answer.{local, known_address, address_of, channel_limit, holds, words_of, refusal, unless_refused}
 use Rattle.board_model.specs.CallChanges.{closing, success_changes}
 use Rattle.board_model.specs.Deeds.{Deed, looks_back, puts_owed, looks_ahead, takes, calls, happens_by, after_deed, after_deeds}
-use Rattle.board_model.proofs.LaneRows.{Deals, stays, learns, forgets, hands, queues, loses, rejects, accepts, acts, acting-all, row-deals}
+use Rattle.board_model.proofs.LaneRows.{Deals, stays, strays, awaits, learns, forgets, hands, queues, loses, rejects, accepts, acts, acting-all, row-deals}
 use Rattle.board_model.proofs.MessageAlls.{none-passes, all-append, all-filter, all-found, all-changed-first, found-passes}
 use Rattle.board_model.proofs.MessageLists.{get-position}
 use Rattle.board_model.proofs.StateEnds.{end-holds, lending-holds, tested-holds}
@@ -45,6 +47,10 @@ FarEnds known s = AllByRecursion (λ e. FarReal known e.channel) s.endpoints
 abbrev pub HearsFar : (ℕ → ℕ → Type 0) → ℕ → Reading → Type 0
 HearsFar known q (says src dst (connect m k)) = known q src × IsChannel m
 HearsFar known q other = Unit {0}
+
+far_carried : (known : ℕ → ℕ → Type 0) (q a d : ℕ) (k : Carrier) (bytes : List ℕ) → HearsFar known q (says a d (carried k bytes))
+far_carried known q a d (of_message priority) bytes = tt
+far_carried known q a d (of_packet channel) bytes = tt
 
 abbrev pub HearsFarDeed : (ℕ → ℕ → Type 0) → Deed → Type 0
 HearsFarDeed known d = OfTaken (HearsFar known) d
@@ -159,7 +165,7 @@ module _ (known : ℕ → ℕ → Type 0) where
     end_real : (p : Endpoint → Bool) (e : Endpoint) (c : ChannelEnd) → find p s.endpoints ≡ Some e → e.channel ≡ Some c → FarReal known (Some c)
     end_real p e c found has = subst (FarReal known) has (all-found OfEnd p s.endpoints e far found)
 
-    frame_far : (q : ℕ) (name : Option ℕ) (r : Reading) → HearsFar known q r → AllByRecursion FitsFar (row_of s q name r).happens
+    frame_far : (q : ℕ) (name : Came) (r : Reading) → HearsFar known q r → AllByRecursion FitsFar (row_of s q name r).happens
     frame_far q name r hears = go (row-deals s q name r)
       where
         by : (cs : List Change) → (row_of s q name r).happens ≡ cs → AllByRecursion FitsFar cs → AllByRecursion FitsFar (row_of s q name r).happens
@@ -167,6 +173,8 @@ module _ (known : ℕ → ℕ → Type 0) where
 
         go : Deals s q name r (row_of s q name r) → AllByRecursion FitsFar (row_of s q name r).happens
         go (stays happens word) = by [] happens tt
+        go (strays source at p is none happens word) = by [] happens tt
+        go (awaits source at p is some happens word) = by [] happens tt
         go (learns text n a names is learned_so happens word) = by (names_known q names ∷ name_found n a ∷ []) happens (tt, (tt, tt))
         go (forgets text n a names is forgotten_so happens word) = by (names_known q names ∷ []) happens (tt, tt)
         go (hands source at l e is found carried waits happens word) = by (item_handed at (item_of q name source l) ∷ []) happens (tt, tt)
@@ -217,7 +225,7 @@ module _ (known : ℕ → ℕ → Type 0) where
       far_deed (looks_back q n) hears = far
       far_deed (puts_owed q frame) hears = far
       far_deed (looks_ahead q n) hears = far
-      far_deed (takes q name frame word) hears = far_changes s (happens_by s (takes q name frame word)) (tt, frame_far q name (reading frame) hears) far
+      far_deed (takes q name frame word) hears = far_changes s (happens_by s (takes q name frame word)) (tt, frame_far q (came_from s q name frame) (said_from s q frame) (coming-holds (HearsFar known q) (λ a d k bytes. far_carried known q a d k bytes) (λ a d p. tt) (part_of s q) (reading frame) hears)) far
       far_deed (calls node call a) hears = far_changes s (happens_by s (calls node call a)) (call_far node call (refusal s node call) refl) far
 
   -- ---- a run

@@ -14,7 +14,7 @@ use Rattle.mc_base.specs.Limits.{buffer_size, frame_header_size, name_service_ad
 use Rattle.mc_base.specs.FaultRow.{FaultRow, first, first_fault, widened}
 use Rattle.mc_base.specs.Frame.{made, source_of, destination_of, payload_of}
 use Rattle.mc_base.specs.FullName.{end_name, full_name}
-use Rattle.mc_base.specs.Letter.{PlainLetter, msg, connect, accept, reject, recv_open, send_open, packet, scalar, send_close, recv_close, spelling, Fields, fields, fields_of, spelled, IsChannel}
+use Rattle.mc_base.specs.Letter.{PlainLetter, msg, connect, accept, reject, recv_open, send_open, packet, scalar, send_close, recv_close, spelling, Fields, fields, fields_of, spelled, IsChannel, Piece, piece_spelling, Carrier, of_message, of_packet, carrier_fields}
 use Rattle.mc_base.specs.LetterFaults.{letter_faults, fields_in}
 use Rattle.mc_base.specs.Announcement.{announcement, announcement_faults, flags_of, is_name, name_in}
 use Rattle.mc_base.specs.Fault.{faults, fault}
@@ -22,7 +22,7 @@ use Rattle.mc_base.specs.declared.channel.Reason.{Reason}
 use Rattle.mc_base.specs.declared.fault.Fault.{Fault}
 use Rattle.mc_base.specs.declared.fault.Fault.TheVariants as of
 use Rattle.mc_base.specs.declared.fault.FrameFault.TheVariants.{FrameLong}
-use Rattle.mc_base.specs.Reading.{Reading, is_faulty, announces, says, reading, reading_by, announced_in, letter_of}
+use Rattle.mc_base.specs.Reading.{Reading, is_faulty, announces, says, reading, reading_by, announced_in, letter_of, brings, piece_of, said_in}
 use Rattle.board_model.specs.State.{Announcement, Reply, announcing, letter_by, replying}
 use Rattle.board_model.specs.Honesty.{IsMade}
 use Rattle.board_model.specs.Messages.{said_by}
@@ -86,7 +86,7 @@ module _ (src dst : ℕ) (f : Fields) (first : f.version ≡ 1) where
 
   -- what it says where it has no fault
   abbrev said_of : Bool → Reading
-  said_of b = cond b (announced_in (payload_of letter_frame)) (says (source_of letter_frame) (destination_of letter_frame) (letter_of (fields_in (payload_of letter_frame))))
+  said_of b = cond b (announced_in (payload_of letter_frame)) (said_in (source_of letter_frame) (destination_of letter_frame) (fields_in (payload_of letter_frame)))
 
   whole_letter : payload_of letter_frame ≡ spelled f → fault letter_frame ≡ None → (b : Bool) → (destination_of letter_frame == name_service_address) ≡ b → MadeReads src f (said_of b)
   whole_letter back none true to_names =
@@ -94,8 +94,9 @@ module _ (src dst : ℕ) (f : Fields) (first : f.version ≡ 1) where
       = ap (λ p. not (is_name (name_in p))) back ∙ (ap (λ v. not (is_name (name_in (0x4d ∷ v ∷ f.kind ∷ f.argument ∷ (little_bytes 4 f.channel ++ f.content))))) first ∙ ap not (not_a_name (f.kind ∷ f.argument ∷ (little_bytes 4 f.channel ++ f.content)))) in
       let a_name = (sound_name letter_frame none to_names).named in
       absurd cc
-  whole_letter back none false to_names = subst (λ p. MadeReads src f (says (source_of letter_frame) (destination_of letter_frame) (letter_of (fields_in p)))) (sym back)
-      (made_letter (source_of letter_frame) (destination_of letter_frame) (number_at 4 4 (spelled f)) (λ fits. source_back src dst (spelled f) fits) (λ fits. little_number-reads_back 4 f.channel f.content fits))
+  whole_letter back none false to_names = subst (λ p. MadeReads src f (said_in (source_of letter_frame) (destination_of letter_frame) (fields_in p))) (sym back)
+      (subst (λ k. MadeReads src f (cond k (brings (source_of letter_frame) (destination_of letter_frame) (piece_of (fields_in (spelled f)))) (says (source_of letter_frame) (destination_of letter_frame) (letter_of (fields_in (spelled f)))))) (sym (ap (λ v. v == 2) first))
+      (made_letter (source_of letter_frame) (destination_of letter_frame) (number_at 4 4 (spelled f)) (λ fits. source_back src dst (spelled f) fits) (λ fits. little_number-reads_back 4 f.channel f.content fits)))
 
   by_fault : payload_of letter_frame ≡ spelled f → (x : Option Fault) → fault letter_frame ≡ x → MadeReads src f (reading_by x letter_frame)
   by_fault back (Some w) is = made_faulty w
@@ -107,6 +108,56 @@ module _ (src dst : ℕ) (f : Fields) (first : f.version ≡ 1) where
     | inl short ↦ by_fault (payload_back src dst (spelled f) (leb-true (length (spelled f)) 496 short)) (fault letter_frame) refl
     | inr long ↦ subst (λ x. MadeReads src f (reading_by x letter_frame)) (sym (too_long src dst (spelled f) (leb-false (length (spelled f)) 496 long))) (made_faulty _)
   ]
+
+-- ---- parts
+
+not_a_name_so : (rest : List ℕ) → is_name (name_in (0x4d ∷ 2 ∷ rest)) ≡ false
+not_a_name_so rest =
+    let more : ℕ → Bool = λ b. not (b == 0) in
+    let begins : name_in (0x4d ∷ 2 ∷ rest) ≡ 0x4d ∷ 2 ∷ take_while more (take 29 rest)
+    = take_while-cons more 0x4d (2 ∷ take 29 rest) ∙ ap (λ (bs : List ℕ). 0x4d ∷ bs) (take_while-cons more 2 (take 29 rest)) in
+    ap is_name begins ∙ never (nat_lt 0 (length (0x4d ∷ 2 ∷ take_while more (take 29 rest))))
+  where
+    never : (b : Bool) → b && false ≡ false
+    never true = refl
+    never false = refl
+
+-- a frame of a part is read as one, or has a fault
+pub data MadePart : Reading → Type 0 where
+  part_faulty : (w : Fault) → MadePart (is_faulty w)
+  part_brings : (s d : ℕ) (q : Piece) → MadePart (brings s d q)
+
+module _ (src dst : ℕ) (f : Fields) (second : f.version ≡ 2) where
+  abbrev part_frame : List ℕ
+  part_frame = made src dst (spelled f)
+
+  whole_part : payload_of part_frame ≡ spelled f → fault part_frame ≡ None → (b : Bool) → (destination_of part_frame == name_service_address) ≡ b → MadePart (cond b (announced_in (payload_of part_frame)) (said_in (source_of part_frame) (destination_of part_frame) (fields_in (payload_of part_frame))))
+  whole_part back none true to_names =
+      let no_name : not (is_name (name_in (payload_of part_frame))) ≡ true
+      = ap (λ p. not (is_name (name_in p))) back ∙ (ap (λ v. not (is_name (name_in (0x4d ∷ v ∷ f.kind ∷ f.argument ∷ (little_bytes 4 f.channel ++ f.content))))) second ∙ ap not (not_a_name_so (f.kind ∷ f.argument ∷ (little_bytes 4 f.channel ++ f.content)))) in
+      let a_name = (sound_name part_frame none to_names).named in
+      absurd cc
+  whole_part back none false to_names = subst (λ p. MadePart (said_in (source_of part_frame) (destination_of part_frame) (fields_in p))) (sym back)
+      (subst (λ k. MadePart (cond k (brings (source_of part_frame) (destination_of part_frame) (piece_of (fields_in (spelled f)))) (says (source_of part_frame) (destination_of part_frame) (letter_of (fields_in (spelled f)))))) (sym (ap (λ v. v == 2) second))
+      (part_brings (source_of part_frame) (destination_of part_frame) (piece_of (fields_in (spelled f)))))
+
+  part_by_fault : payload_of part_frame ≡ spelled f → (x : Option Fault) → fault part_frame ≡ x → MadePart (reading_by x part_frame)
+  part_by_fault back (Some w) is = part_faulty w
+  part_by_fault back None is = whole_part back is (destination_of part_frame == name_service_address) refl
+
+  fields_made : MadePart (reading (made src dst (spelled f)))
+  unfolding reading
+  fields_made = elim (cases_Bool (nat_le (length (spelled f)) 496)) [
+    | inl short ↦ part_by_fault (payload_back src dst (spelled f) (leb-true (length (spelled f)) 496 short)) (fault part_frame) refl
+    | inr long ↦ subst (λ x. MadePart (reading_by x part_frame)) (sym (too_long src dst (spelled f) (leb-false (length (spelled f)) 496 long))) (part_faulty _)
+  ]
+
+pub part_made : (src dst : ℕ) (p : Piece) → MadePart (reading (made src dst (piece_spelling p)))
+part_made src dst p = go p.carrier
+  where
+    go : (k : Carrier) → MadePart (reading (made src dst (spelled (carrier_fields k (little_bytes 2 p.total ++ (little_bytes 2 p.offset ++ p.content))))))
+    go (of_message priority) = fields_made src dst (carrier_fields (of_message priority) (little_bytes 2 p.total ++ (little_bytes 2 p.offset ++ p.content))) refl
+    go (of_packet n) = fields_made src dst (carrier_fields (of_packet n) (little_bytes 2 p.total ++ (little_bytes 2 p.offset ++ p.content))) refl
 
 -- ---- announcements
 
@@ -153,7 +204,7 @@ module _ (d : ℕ) (a : Announcement) where
   by_fault_of : payload_of frame ≡ payload → (x : Option Fault) → fault frame ≡ x → Tells a.address (reading_by x frame)
   by_fault_of back (Some w) is = tells_faulty w
   by_fault_of back None is =
-      subst (λ b. Tells a.address (cond b (announced_in (payload_of frame)) (says (source_of frame) (destination_of frame) (letter_of (fields_in (payload_of frame)))))) (sym to_names) (whole_name back is to_names)
+      subst (λ b. Tells a.address (cond b (announced_in (payload_of frame)) (said_in (source_of frame) (destination_of frame) (fields_in (payload_of frame))))) (sym to_names) (whole_name back is to_names)
 
   pub tells_made : Tells a.address (reading (announcing d a))
   unfolding reading
@@ -173,6 +224,7 @@ abbrev pub Honest : ℕ → Reading → Type 0
 Honest endpoints (is_faulty w) = Unit {0}
 Honest endpoints (announces text a create) = IsMade endpoints a
 Honest endpoints (says src dst l) = HonestLetter endpoints src l
+Honest endpoints (brings src dst q) = Unit {0}
 
 pub first_version : (l : PlainLetter) → (fields_of l).version ≡ 1
 first_version (msg priority bytes) = refl
@@ -254,6 +306,7 @@ replying_replies r = go r.reason
 pub reply_honest : (endpoints : ℕ) (r : Reading) → IsReply r → Honest endpoints r
 reply_honest endpoints (is_faulty w) is = tt
 reply_honest endpoints (announces text a create) is = absurd is
+reply_honest endpoints (brings src dst q) is = absurd is
 reply_honest endpoints (says src dst (accept m)) is = tt
 reply_honest endpoints (says src dst (reject m why)) is = tt
 reply_honest endpoints (says src dst other) is = absurd is
@@ -261,6 +314,7 @@ reply_honest endpoints (says src dst other) is = absurd is
 pub reply_silent : (sender receiver : ℕ) (r : Reading) → IsReply r → said_by sender receiver r ≡ []
 reply_silent sender receiver (is_faulty w) is = refl
 reply_silent sender receiver (announces text a create) is = refl
+reply_silent sender receiver (brings src dst q) is = refl
 reply_silent sender receiver (says src dst (accept m)) is = refl
 reply_silent sender receiver (says src dst (reject m why)) is = refl
 reply_silent sender receiver (says src dst other) is = absurd is

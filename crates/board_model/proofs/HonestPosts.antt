@@ -1,23 +1,22 @@
 -- Each letter that a call posts is read back: it goes from an address of the domain's own to one that it knows, and a channel's number
 -- is one.
-use Rattle.std.proofs.Common.{◌≡◌, ℕ, ◌+◌, ◌*◌, ◌≤◌, ◌<◌, ◌^◌, Bool, false, not, List, find, length, Option, Some, None, refl, sym, ◌∙◌, subst, arith}
-use Rattle.std.specs.Prelude.{is_some, option_map, unwrap_or}
+use Rattle.std.proofs.Common.{◌≡◌, ℕ, ◌+◌, ◌*◌, ◌≤◌, ◌<◌, ◌^◌, Bool, true, false, not, List, find, length, Option, Some, None, refl, sym, ◌∙◌, subst, arith}
+use Rattle.std.specs.Prelude.{is_some, option_map, unwrap_or, nat_lt, ◌||◌}
 use Rattle.std.specs.List.{AllByRecursion}
 use Rattle.std.proofs.lemmas.Bool.{leb-false, ltb-false}
 use Rattle.mc_base.specs.Limits.{item_size}
-use Rattle.mc_base.specs.Letter.{PlainLetter, bytes_of_bits, msg, connect, packet, scalar, IsChannel, HasSpelling}
-use Rattle.mc_base.specs.Reading.{says, reading}
+use Rattle.mc_base.specs.Letter.{PlainLetter, bytes_of_bits, msg, connect, packet, scalar, IsChannel}
 use Rattle.mc_base.specs.declared.name.Local.{Local}
 use Rattle.mc_base.specs.declared.name.EndName.{EndName}
 use Rattle.mc_base.specs.declared.channel.Side.{Side}
 use Rattle.mc_base.specs.declared.channel.Side.TheVariants.{Sender, Receiver}
 use Rattle.board_model.specs.DomainCall.{DomainCall, send_from, connect_from, open_at, packet_from, scalar_from, close_at}
 use Rattle.board_model.specs.State.{ChannelEnd, Endpoint, DomainState, is_at, place_at, address_at, live_at, channel_in}
-use Rattle.board_model.specs.Answer.{local, address_of, channel_limit, over_channel, over_end, opening_letter, closing_letter, Post, post, put_of, success_posts}
+use Rattle.board_model.specs.Answer.{local, address_of, channel_limit, over_channel, over_end, opening_letter, closing_letter, Post, post, success_posts}
 use Rattle.board_model.proofs.MessageAlls.{all-found}
 use Rattle.board_model.proofs.MessageLists.{get-position}
 use Rattle.board_model.proofs.StateEnds.{there_is}
-use Rattle.board_model.proofs.HonestReads.{letter_back}
+use Rattle.board_model.proofs.PartLetters.{FramesSaid, CanGo, letter_frames, letter_said}
 use Rattle.board_model.proofs.HonestSound.{own, Sound}
 use Rattle.board_model.proofs.HonestDeeds.{NoWord}
 use Rattle.board_model.proofs.HonestEnds.{FarReal, FarEnds, address_holds}
@@ -33,12 +32,12 @@ FitsCall (send_from port to priority bytes) = priority ≤ 3
 FitsCall (scalar_from port bits value) = value < 2 ^ (8 * bytes_of_bits bits)
 FitsCall other = Unit {0}
 
--- the frame says the letter
+-- the frames say the letter
 abbrev pub Reads : Post → Type 0
-Reads x = reading (put_of x).1 ≡ says x.source x.destination x.letter
+Reads x = FramesSaid x.source x.destination x.letter (letter_frames x.source x.destination x.letter)
 
-reads_post : (x : Post) → CanReach x.source → CanReach x.destination → HasSpelling x.letter → Reads x
-reads_post x from into has = letter_back x.source x.destination x.letter has from.below into.above into.below
+reads_post : (x : Post) → CanReach x.source → CanReach x.destination → CanGo x.letter → Reads x
+reads_post x from into has = letter_said x.source x.destination from.below into.above into.below x.letter has
 
 module _ (made : ℕ) (known : ℕ → ℕ → Type 0) (ns : List ℕ) (reach : (q a : ℕ) → known q a → CanReach a) (s : DomainState) (sound : Sound made known ns s) where
   pub own_reach : (p : Endpoint → Bool) (e : Endpoint) → find p s.endpoints ≡ Some e → CanReach e.address
@@ -57,23 +56,23 @@ module _ (made : ℕ) (known : ℕ → ℕ → Type 0) (ns : List ℕ) (reach : 
       subst (λ o. CanReach (unwrap_or (option_map (λ (k : Endpoint). k.address) o) 0)) (sym (get-position (is_at at) s.endpoints ∙ e.1)) (own_reach (is_at at) e.0 e.1)
 
   module _ (far : FarEnds known s) where
-    over_reads : (at : Local) (letter : ℕ → PlainLetter) → ((n : ℕ) → IsChannel n → HasSpelling (letter n)) → (x : Option Endpoint) → live_at s at ≡ x → (c : Option ChannelEnd) → FarReal known c → AllByRecursion Reads (over_channel x c letter)
+    over_reads : (at : Local) (letter : ℕ → PlainLetter) → ((n : ℕ) → IsChannel n → CanGo (letter n)) → (x : Option Endpoint) → live_at s at ≡ x → (c : Option ChannelEnd) → FarReal known c → AllByRecursion Reads (over_channel x c letter)
     over_reads at letter has None found c real = tt
     over_reads at letter has (Some e) found None real = tt
     over_reads at letter has (Some e) found (Some c) real = (reads_post (post c.peer e.address c.peer_address (letter c.number)) (own_reach (is_at at) e found) (reach c.peer c.peer_address real.0) (has c.number real.1), tt)
 
-    end_reads : (at : Local) (letter : ℕ → PlainLetter) → ((n : ℕ) → IsChannel n → HasSpelling (letter n)) → AllByRecursion Reads (over_end s at letter)
+    end_reads : (at : Local) (letter : ℕ → PlainLetter) → ((n : ℕ) → IsChannel n → CanGo (letter n)) → AllByRecursion Reads (over_end s at letter)
     end_reads at letter has = go (live_at s at) refl
       where
         go : (x : Option Endpoint) → live_at s at ≡ x → AllByRecursion Reads (over_channel x (channel_in x) letter)
         go None found = tt
         go (Some e) found = over_reads at letter has (Some e) found e.channel (all-found (λ (k : Endpoint). FarReal known k.channel) (is_at at) s.endpoints e far found)
 
-    opening_spelled : (side : Side) (n : ℕ) → IsChannel n → HasSpelling (opening_letter side n)
+    opening_spelled : (side : Side) (n : ℕ) → IsChannel n → CanGo (opening_letter side n)
     opening_spelled Sender n is = is
     opening_spelled Receiver n is = is
 
-    closing_spelled : (side : Side) (n : ℕ) → IsChannel n → HasSpelling (closing_letter side n)
+    closing_spelled : (side : Side) (n : ℕ) → IsChannel n → CanGo (closing_letter side n)
     closing_spelled Sender n is = is
     closing_spelled Receiver n is = is
 

@@ -2,7 +2,7 @@
 use Rattle.std.proofs.Common.{◌≡◌, ℕ, ◌≤◌, List, [], ◌∷◌, map, refl, ap, arith}
 use Rattle.std.specs.List.{AllByRecursion}
 use Rattle.mc_base.specs.Limits.{creation_limit}
-use Rattle.mc_base.specs.Reading.{reading, is_faulty, announces, says, Reading}
+use Rattle.mc_base.specs.Reading.{reading, is_faulty, announces, says, Reading, brings}
 use Rattle.board_model.specs.Scenario.{Neighbour}
 use Rattle.board_model.specs.State.{DomainState, new_peer, opening}
 use Rattle.board_model.specs.Deeds.{Deed, looks_back, puts_owed, looks_ahead, takes, calls, happens_by, after_deed, after_deeds, AllMayDo, along}
@@ -61,6 +61,7 @@ hears_anything (d ∷ ds) = (one d, hears_anything ds)
     heard q (is_faulty w) = tt
     heard q (announces text a there) = tt
     heard q (says src dst l) = tt
+    heard q (brings src dst p) = tt
 
     one : (e : Deed) → HearsDeed anything e
     one (looks_back q n) = tt

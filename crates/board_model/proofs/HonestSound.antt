@@ -9,7 +9,7 @@ use Rattle.mc_base.specs.NameMap.{Names}
 use Rattle.board_model.specs.Honesty.{IsMade}
 use Rattle.board_model.specs.Choice.{without_best}
 use Rattle.board_model.specs.State.{Endpoint, Announcement, Peer, DomainState, is_at, has_address_of, is_numbered}
-use Rattle.board_model.specs.Change.{Change, endpoint_made, endpoint_gone, item_queued, best_gone, oldest_gone, channel_set, queue_dropped, end_announced, reply_owed, owed_put, buffers_back, frames_shown, frame_taken, names_known, buffer_used, endpoint_with, with_queue, with_channel, without_queue, at_address, at_peer, also_owed, first_put, changed, changed_all}
+use Rattle.board_model.specs.Change.{Change, endpoint_made, endpoint_gone, item_queued, best_gone, oldest_gone, channel_set, queue_dropped, end_announced, reply_owed, owed_put, buffers_back, frames_shown, frame_taken, names_known, buffers_used, endpoint_with, with_queue, with_channel, without_queue, at_address, at_peer, also_owed, first_put, changed, changed_all}
 use Rattle.board_model.proofs.MessageAlls.{none-passes, all-append, all-changed-first, all-drop, found-passes}
 use Rattle.board_model.proofs.StateEnds.{numbers-kept}
 use Rattle.board_model.proofs.OrderSound.{Rise, rise_changed, rise_fewer, rise_more, Apart, apart_changed, apart_fewer, apart_more}
@@ -150,8 +150,8 @@ module _ (made : ℕ) (known : ℕ → ℕ → Type 0) (ns : List ℕ) where
     sound_change (owed_put q) fits = by_peer q first_put (λ p is well. put_sound p well) (owed_put q) refl refl refl
     sound_change (buffers_back q n) fits = by_peer q (λ p. record p { free = p.free + n }) (λ p is well. record { announced = well.announced; names = well.names }) (buffers_back q n) refl refl refl
     sound_change (frames_shown q n) fits = by_peer q (λ p. record p { shown = n }) (λ p is well. record { announced = well.announced; names = well.names }) (frames_shown q n) refl refl refl
-    sound_change (frame_taken q) fits = by_peer q (λ p. record p { shown = p.shown - 1 }) (λ p is well. record { announced = well.announced; names = well.names }) (frame_taken q) refl refl refl
-    sound_change (buffer_used q) fits = by_peer q (λ p. record p { free = p.free - 1 }) (λ p is well. record { announced = well.announced; names = well.names }) (buffer_used q) refl refl refl
+    sound_change (frame_taken q part names) fits = by_peer q (λ p. record p { shown = p.shown - 1; part = part }) (λ p is well. record { announced = well.announced; names = well.names }) (frame_taken q part names) refl refl refl
+    sound_change (buffers_used q count) fits = by_peer q (λ p. record p { free = p.free - count }) (λ p is well. record { announced = well.announced; names = well.names }) (buffers_used q count) refl refl refl
     sound_change (names_known q ks) fits = by_peer q (λ p. record p { known = ks })
         (λ p is well. record { announced = well.announced; names = subst (λ n. Names_of n ks) (sym (eqb-true p.number q is)) fits }) (names_known q ks) refl refl refl
     sound_change other fits = by_others other refl refl refl

@@ -1,10 +1,12 @@
 -- What holds of each item that a frame brings holds of all items that a domain holds, and of those that a call gives back.
+use Rattle.board_model.specs.Parts.{Came, came_from, said_from}
+use Rattle.mc_base.specs.Pieces.{frames_needed}
 use Rattle.std.proofs.Common.{◌≡◌, ℕ, ◌+◌, Bool, false, not, ◌&&◌, cond, List, [], ◌∷◌, ◌++◌, map, Option, Some, None, refl, sym, subst}
 use Rattle.std.specs.Prelude.{find, is_none, drop, slice_get, option_map, option_to_list, ◌==◌}
 use Rattle.std.specs.List.{AllByRecursion}
 use Rattle.std.proofs.lemmas.Bool.{cond_both}
-use Rattle.mc_base.specs.Letter.{PlainLetter}
-use Rattle.mc_base.specs.Reading.{Reading, reading}
+use Rattle.mc_base.specs.Letter.{PlainLetter, packet}
+use Rattle.mc_base.specs.Reading.{Reading}
 use Rattle.mc_base.specs.declared.name.Local.{Local}
 use Rattle.mc_base.specs.declared.channel.Side.{Side}
 use Rattle.mc_base.specs.declared.channel.Side.TheVariants.{Sender, Receiver}
@@ -14,15 +16,15 @@ use Rattle.board_model.specs.State.{Item, ChannelEnd, Endpoint, channel_of, mess
 use Rattle.board_model.specs.Choice.{least, best, best_place, without_best, oldest}
 use Rattle.board_model.specs.DomainCall.{DomainCall, create_at, delete_at, lookup_of, send_from, receive_at, request_at, available_at, connect_from, open_at, packet_from, lend_at, packet_request_at, release_of, scalar_from, scalar_at, close_at, test_of, wait_for, cancel_of, raw_to, turn_alone}
 use Rattle.board_model.specs.Answer.{first_complete, local, address_of, refusal, unless_refused}
-use Rattle.board_model.specs.Change.{Change, endpoint_made, endpoint_gone, item_queued, best_gone, oldest_gone, item_lost, channel_set, queue_dropped, request_added, item_handed, waiting_ended, name_found, connect_settled, request_gone, end_announced, reply_owed, owed_put, buffers_back, frames_shown, frame_taken, names_known, buffer_used, packet_lent, packet_gone, channel_given, asks_for, connects_on, done_with, handed_in, ended_in, with_queue, with_channel, without_queue, endpoint_with, changed, changed_all}
-use Rattle.board_model.specs.TakenFrames.{Row, item_of, row_of}
+use Rattle.board_model.specs.Change.{Change, endpoint_made, endpoint_gone, item_queued, best_gone, oldest_gone, item_lost, channel_set, queue_dropped, request_added, item_handed, waiting_ended, name_found, connect_settled, request_gone, end_announced, reply_owed, owed_put, buffers_back, frames_shown, frame_taken, names_known, buffers_used, packet_lent, packet_gone, channel_given, asks_for, connects_on, done_with, handed_in, ended_in, with_queue, with_channel, without_queue, endpoint_with, changed, changed_all}
+use Rattle.board_model.specs.TakenFrames.{Row, item_of, row_from}
 use Rattle.board_model.specs.ChannelEnds.{opened_end}
 use Rattle.board_model.specs.CallChanges.{at_live, new_sender, closing, lending, lent_by, lent_by_test, best_item, success_changes, call_changes, item_lent, message_held, held_by, success_returned, returned}
-use Rattle.board_model.specs.Deeds.{Deed, looks_back, puts_owed, looks_ahead, takes, calls, after_deed}
+use Rattle.board_model.specs.Deeds.{Deed, looks_back, puts_owed, looks_ahead, takes, calls, after_deed, taken_change}
 use Rattle.board_model.proofs.MessageAlls.{all-at, all-drop, all-append, all-filter, all-found, all-weaken, all-changed-first, all-without}
 use Rattle.board_model.proofs.MessageLists.{best_is}
 use Rattle.board_model.proofs.StateEnds.{end-holds}
-use Rattle.board_model.proofs.LaneRows.{Deals, stays, learns, forgets, hands, queues, loses, rejects, accepts, acts, acting-all, row-deals}
+use Rattle.board_model.proofs.LaneRows.{Deals, stays, strays, awaits, learns, forgets, hands, queues, loses, rejects, accepts, acts, acting-all, row-deals}
 
 -- so holds of all that is queued, all that requests hold and all packets that are lent
 pub record Held (P : Item → Type 0) (s : DomainState) : Type 0 where
@@ -101,9 +103,9 @@ module _ (P : Item → Type 0) where
   held-changed s (owed_put n) one held = record { queued = held.queued; lent = held.lent; packets = held.packets }
   held-changed s (buffers_back n count) one held = record { queued = held.queued; lent = held.lent; packets = held.packets }
   held-changed s (frames_shown n count) one held = record { queued = held.queued; lent = held.lent; packets = held.packets }
-  held-changed s (frame_taken n) one held = record { queued = held.queued; lent = held.lent; packets = held.packets }
+  held-changed s (frame_taken n part names) one held = record { queued = held.queued; lent = held.lent; packets = held.packets }
   held-changed s (names_known n names) one held = record { queued = held.queued; lent = held.lent; packets = held.packets }
-  held-changed s (buffer_used n) one held = record { queued = held.queued; lent = held.lent; packets = held.packets }
+  held-changed s (buffers_used n count) one held = record { queued = held.queued; lent = held.lent; packets = held.packets }
   held-changed s (packet_lent i) one held = record { queued = held.queued; lent = held.lent; packets = all-append (λ p. P p.item) s.lent (record { serial = s.packets_lent; item = i } ∷ []) held.packets (one, tt) }
   held-changed s (packet_gone place) one held = record { queued = held.queued; lent = held.lent; packets = all-without (λ p. P p.item) place s.lent held.packets }
   held-changed s channel_given one held = record { queued = held.queued; lent = held.lent; packets = held.packets }
@@ -115,8 +117,10 @@ module _ (P : Item → Type 0) where
   -- ---- frames
 
   -- each item of the peer's frame is so
-  row_brings : (s : DomainState) (peer : ℕ) (name : Option ℕ) (frame : Reading) (r : Row) → ((source : ℕ) (l : PlainLetter) → P (item_of peer name source l)) → Deals s peer name frame r → AllByRecursion Brings r.happens
+  row_brings : (s : DomainState) (peer : ℕ) (name : Came) (frame : Reading) (r : Row) → ((source : ℕ) (l : PlainLetter) → P (item_of peer name source l)) → Deals s peer name frame r → AllByRecursion Brings r.happens
   row_brings s peer name frame r each (stays is gives) = subst (AllByRecursion Brings) (sym is) tt
+  row_brings s peer name frame r each (strays source at q says none is word) = subst (AllByRecursion Brings) (sym is) tt
+  row_brings s peer name frame r each (awaits source at q says some is word) = subst (AllByRecursion Brings) (sym is) tt
   row_brings s peer name frame r each (learns text n a names says named is gives) = subst (AllByRecursion Brings) (sym is) (tt, (tt, tt))
   row_brings s peer name frame r each (forgets text n a names says named is gives) = subst (AllByRecursion Brings) (sym is) (tt, tt)
   row_brings s peer name frame r each (hands source at l e says found carried waits is word) = subst (AllByRecursion Brings) (sym is) (each source l, tt)
@@ -209,15 +213,15 @@ module _ (P : Item → Type 0) where
         (λ e one. (tt, (item_holds (best_item e) (best_holds e.queue one), tt)))
     success_brings (available_at port) = tt
     success_brings (connect_from port to kind) =
-        live_holds Brings (λ e. buffer_used to.domain ∷ channel_set e.address (Some (new_sender s to kind)) ∷ request_added (channel_of (s.channels_given + 1)) None ∷ channel_given ∷ []) (local node port) (λ e one. (tt, (tt, (tt, (tt, tt)))))
-    success_brings (open_at port side kind) = end-holds (AllByRecursion Brings) tt (live_at s (local node port)) (λ e c. buffer_used c.peer ∷ channel_set e.address (Some (opened_end c)) ∷ []) (λ e c live has. (tt, (tt, tt)))
-    success_brings (packet_from port bytes) = end-holds (AllByRecursion Brings) tt (live_at s (local node port)) (λ e c. buffer_used c.peer ∷ []) (λ e c live has. (tt, tt))
+        live_holds Brings (λ e. buffers_used to.domain 1 ∷ channel_set e.address (Some (new_sender s to kind)) ∷ request_added (channel_of (s.channels_given + 1)) None ∷ channel_given ∷ []) (local node port) (λ e one. (tt, (tt, (tt, (tt, tt)))))
+    success_brings (open_at port side kind) = end-holds (AllByRecursion Brings) tt (live_at s (local node port)) (λ e c. buffers_used c.peer 1 ∷ channel_set e.address (Some (opened_end c)) ∷ []) (λ e c live has. (tt, (tt, tt)))
+    success_brings (packet_from port bytes) = end-holds (AllByRecursion Brings) tt (live_at s (local node port)) (λ e c. buffers_used c.peer (frames_needed (packet c.number bytes)) ∷ []) (λ e c live has. (tt, tt))
     success_brings (lend_at port) = live_holds Brings (λ e. oldest_gone e.address ∷ lending (oldest e.queue)) (local node port) (λ e one. (tt, lending_brings (oldest e.queue) (oldest_holds e.queue one)))
     success_brings (packet_request_at port) =
         live_holds Brings (λ e. oldest_gone e.address ∷ request_added (packet_at e.local) (option_map has_item (oldest e.queue)) ∷ []) (local node port)
         (λ e one. (tt, (item_holds (oldest e.queue) (oldest_holds e.queue one), tt)))
     success_brings (release_of place) = (tt, tt)
-    success_brings (scalar_from port bits value) = end-holds (AllByRecursion Brings) tt (live_at s (local node port)) (λ e c. buffer_used c.peer ∷ []) (λ e c live has. (tt, tt))
+    success_brings (scalar_from port bits value) = end-holds (AllByRecursion Brings) tt (live_at s (local node port)) (λ e c. buffers_used c.peer 1 ∷ []) (λ e c live has. (tt, tt))
     success_brings (scalar_at port bits) = live_holds Brings (λ e. oldest_gone e.address ∷ []) (local node port) (λ e one. (tt, tt))
     success_brings (close_at port side) = end-holds (AllByRecursion Brings) tt (live_at s (local node port)) (closing side) (λ e c live has. closing_brings side e c)
     success_brings (test_of request) = (tt, request_holds Brings lent_by_test tt (λ r one. lent_brings r.asked r.outcome one) request)
@@ -255,14 +259,14 @@ module _ (P : Item → Type 0) where
   -- ---- deeds
 
   -- each item that a frame brings is so
-  abbrev pub BringsItems : Deed → Type 0
-  BringsItems (takes peer name frame word) = (source : ℕ) (l : PlainLetter) → P (item_of peer name source l)
-  BringsItems other = Unit {0}
+  abbrev pub BringsItems : DomainState → Deed → Type 0
+  BringsItems t (takes peer name frame word) = (source : ℕ) (l : PlainLetter) → P (item_of peer (came_from t peer name frame) source l)
+  BringsItems t other = Unit {0}
 
-  pub deed-holds : (t : DomainState) (d : Deed) → BringsItems d → Held P t → Held P (after_deed t d)
+  pub deed-holds : (t : DomainState) (d : Deed) → BringsItems t d → Held P t → Held P (after_deed t d)
   deed-holds t (looks_back peer count) each held = record { queued = held.queued; lent = held.lent; packets = held.packets }
   deed-holds t (puts_owed peer frame) each held = record { queued = held.queued; lent = held.lent; packets = held.packets }
   deed-holds t (looks_ahead peer count) each held = record { queued = held.queued; lent = held.lent; packets = held.packets }
   deed-holds t (takes peer name frame word) each held =
-      held_all (changed t (frame_taken peer)) (row_of t peer name (reading frame)).happens (row_brings t peer name (reading frame) (row_of t peer name (reading frame)) each (row-deals t peer name (reading frame))) (record { queued = held.queued; lent = held.lent; packets = held.packets })
+      held_all (changed t (taken_change peer (came_from t peer name frame))) (row_from t peer name frame).happens (row_brings t peer (came_from t peer name frame) (said_from t peer frame) (row_from t peer name frame) each (row-deals t peer (came_from t peer name frame) (said_from t peer frame))) (record { queued = held.queued; lent = held.lent; packets = held.packets })
   deed-holds t (calls node call a) each held = held_all t (call_changes t node call) (call_brings t held node call) held

@@ -1,16 +1,21 @@
 -- On a board of linked domains no message is lost. Lane by lane, the messages of the frames put are those of the frames taken and
 -- of those in the ring; and domain by domain, those taken from all peers were received or dropped, or are queued.
-use Rattle.std.proofs.Common.{◌≡◌, ℕ, ◌+◌, ◌≤◌, ◌<◌, ◌^◌, Bool, List, [], ◌∷◌, drop, find, length, map, Option, Some, None, refl, sym, ap, ◌∙◌, arith}
-use Rattle.std.specs.Prelude.{count_by, ◌==◌}
-use Rattle.std.specs.List.{AllByRecursion, flat_map}
+use Rattle.mc_base.specs.Reading.{Reading}
+use Rattle.board_model.proofs.WholeHas.{Has}
+use Rattle.board_model.specs.Parts.{readings, part_after}
+use Rattle.board_model.proofs.PartReadings.{readings-append, readings-length}
+use Rattle.board_model.proofs.PartRuns.{said_along}
+use Rattle.board_model.proofs.PartLaw.{from_peer, reads_along, each_told}
+use Rattle.board_model.proofs.KeptReach.{reach}
+use Rattle.std.proofs.Common.{◌≡◌, ℕ, ◌+◌, ◌<◌, ◌^◌, Bool, List, [], ◌∷◌, drop, length, map, None, refl, sym, ap, ◌∙◌, arith, ◌++◌}
+use Rattle.std.specs.Prelude.{count_by}
+use Rattle.std.specs.List.{AllByRecursion}
 use Rattle.std.proofs.lemmas.List.{drop_at}
-use Rattle.mc_base.specs.Limits.{creation_limit}
 use Rattle.board_model.specs.declared.scenario.DomainLine.{DomainLine}
 use Rattle.board_model.specs.declared.scenario.Scenario.{Scenario}
 use Rattle.board_model.specs.Scenario.{Neighbour, Lane, lane_to, lanes, neighbours, rising}
 use Rattle.board_model.specs.LinkedBoard.{IsLinkedBoard}
 use Rattle.board_model.specs.Traffic.{put_to, taken_from}
-use Rattle.board_model.specs.Run.{IsDomainRun}
 use Rattle.board_model.specs.Board.{DomainJournal, journal_in, journal_of, LaneFits, IsBoardRun}
 use Rattle.board_model.specs.Deeds.{along}
 use Rattle.board_model.specs.JournalDeeds.{deeds_of, opened, left_in}
@@ -18,20 +23,19 @@ use Rattle.board_model.specs.Messages.{Message, accepted_in, accepted, queued_in
 use Rattle.board_model.specs.Drops.{dropped_in, dropped}
 use Rattle.board_model.specs.Takings.{taken_in, messages_taken}
 use Rattle.board_model.specs.Headline.{NoMessageLost}
-use Rattle.board_model.proofs.DeedRuns.{puts_by, takes_by}
-use Rattle.board_model.proofs.MessageAlls.{all-found, all-weaken}
+use Rattle.board_model.proofs.DeedRuns.{puts_by, says_by}
+use Rattle.board_model.proofs.MessageAlls.{all-weaken, all-with}
 use Rattle.board_model.proofs.MessageOnce.{total, total-each, total-same, total-sum, total-map, total-joined, count-joined}
 use Rattle.board_model.proofs.MessageNeighbours.{over_lanes, lanes-turned}
 use Rattle.board_model.proofs.PlaceBoards.{neighbours_differ}
 use Rattle.board_model.proofs.OrderLaws.{run_queues}
 use Rattle.board_model.proofs.OrderSerials.{Serials, all_succeed}
 use Rattle.board_model.proofs.HonestRuns.{anything, sound_opening}
-use Rattle.board_model.proofs.HonestBoard.{made_at, may_know, OnBoard, each_on_board}
+use Rattle.board_model.proofs.HonestBoard.{may_know, OnBoard, each_on_board}
 use Rattle.board_model.proofs.KeptDeeds.{brought_by}
 use Rattle.board_model.proofs.KeptRuns.{run_balanced}
-use Rattle.board_model.proofs.KeptLanes.{passing, passing-append, run_brings}
+use Rattle.board_model.proofs.KeptLanes.{passing, run_brings, saying, saying-append}
 use Rattle.board_model.proofs.KeptSends.{run_sends}
-use Rattle.board_model.proofs.HonestPosts.{CanReach}
 use Rattle.board_model.proofs.KeptTells.{numbers_of, after_run}
 
 -- ---- sums over journals, and over lanes
@@ -49,19 +53,11 @@ over-all f s =
     (λ d. total-map (λ l. f l.sender l.receiver) (lane_to d.domain) (neighbours s d)) (rising s)
 
 module _ (s : Scenario) (js : List DomainJournal) (board : IsLinkedBoard s) (run : IsBoardRun s js) where
-  abbrev Placed : DomainJournal → Type 0
-  Placed j = OnBoard s js board run j
+  abbrev pub Placed : DomainJournal → Type 0
+  Placed j = OnBoard s js board run j × Has (λ e. e ≡ j.line) s.domains
 
-  -- an address that is known of a domain is one that a frame can be sent to
-  made_few : (o : Option DomainJournal) (q : ℕ) → find (λ j. j.line.domain == q) js ≡ o → made_at s js board run q ≤ creation_limit
-  made_few None q is = rw is (omega arith)
-  made_few (Some j) q is = rw is (after_run s board j (all-found (λ k. IsDomainRun s k.line k.entries) (λ k. k.line.domain == q) js j run.domain_runs is)).few
-
-  pub reach : (q a : ℕ) → may_know s js board run q a → CanReach a
-  reach q a known =
-      let few : made_at s js board run q ≤ 60000 = made_few (find (λ j. j.line.domain == q) js) q refl in
-      let top : a < 1024 + made_at s js board run q = known.below in
-      record { above = known.above; below = omega arith }
+  pub all_placed : AllByRecursion Placed js
+  all_placed = all-with (OnBoard s js board run) (λ j. Has (λ e. e ≡ j.line) s.domains) Placed (λ j a b. (a, b)) js (each_on_board s js board run) (each_told s js board run)
 
   module _ (test : Message → Bool) where
     -- what passes the test of the messages that were put from one domain to another, of those taken there, and of those in the ring
@@ -72,7 +68,7 @@ module _ (s : Scenario) (js : List DomainJournal) (board : IsLinkedBoard s) (run
     taken_at a b = passing test a b (taken_from a (journal_of b js))
 
     abbrev ringing : ℕ → ℕ → ℕ
-    ringing a b = passing test a b (drop (length (taken_from a (journal_of b js))) (put_to b (journal_of a js)))
+    ringing a b = saying test a b (drop (length (taken_from a (journal_of b js))) (readings None (put_to b (journal_of a js))))
 
     -- ---- a journal
 
@@ -81,15 +77,15 @@ module _ (s : Scenario) (js : List DomainJournal) (board : IsLinkedBoard s) (run
         let d : ℕ = j.line.domain in
         let made : ℕ = (left_in s j).endpoints_given in
         let known : ℕ → ℕ → Type 0 = may_know s js board run in
-        run_sends test made known (numbers_of s j.line) reach (neighbours_differ s board j.line) (after_run s board j on.is_run).few d (opened s j) (deeds_of s j) on.told.run.may on.hears on.deeds.fit (omega arith) (sound_opening made known d j.line.nodes (neighbours s j.line))
-        ∙ total-same (λ n. passing test d n (along (puts_by n) (opened s j) (deeds_of s j))) (λ n. passing test d n (put_to n j.entries)) (λ n. ap (passing test d n) (sym (on.told.puts n))) (numbers_of s j.line)
+        run_sends test made known (numbers_of s j.line) (reach s js board run) (neighbours_differ s board j.line) (after_run s board j on.0.is_run).few d (opened s j) (deeds_of s j) on.0.told.run.may on.0.hears on.0.deeds.fit (λ q. reads_along s js board run q j on.0 [] (deeds_of s j) refl on.0.deeds.fit) (omega arith) (sound_opening made known d j.line.nodes (neighbours s j.line))
+        ∙ total-same (λ n. passing test d n (along (puts_by n) (opened s j) (deeds_of s j))) (λ n. passing test d n (put_to n j.entries)) (λ n. ap (passing test d n) (sym (on.0.told.puts n))) (numbers_of s j.line)
 
     accepted_here : (j : DomainJournal) → Placed j → count_by test (accepted_in s j) ≡ total (λ k. put_from j.line.domain k.number) (neighbours s j.line)
     accepted_here j on =
         let d : ℕ = j.line.domain in
         journal-accepted j on
         ∙ (total-map (λ n. passing test d n (put_to n j.entries)) (λ (k : Neighbour). k.number) (neighbours s j.line)
-        ∙ ap (λ o. total (λ k. passing test d k.number (put_to k.number (journal_in o))) (neighbours s j.line)) (sym on.found))
+        ∙ ap (λ o. total (λ k. passing test d k.number (put_to k.number (journal_in o))) (neighbours s j.line)) (sym on.0.found))
 
     -- what the frames taken bring
     abbrev pub brought : DomainJournal → ℕ
@@ -98,10 +94,10 @@ module _ (s : Scenario) (js : List DomainJournal) (board : IsLinkedBoard s) (run
     journal_brought : (j : DomainJournal) → Placed j → brought j ≡ total (λ k. taken_at k.number j.line.domain) (neighbours s j.line)
     journal_brought j on =
         let d : ℕ = j.line.domain in
-        run_brings test d (numbers_of s j.line) (opened s j) (deeds_of s j) on.deeds.from
-        ∙ (total-same (λ n. passing test n d (flat_map (takes_by n) (deeds_of s j))) (λ n. passing test n d (taken_from n j.entries)) (λ n. ap (passing test n d) (sym (on.told.takes n))) (numbers_of s j.line)
+        run_brings test d (numbers_of s j.line) (opened s j) (deeds_of s j) on.0.deeds.from
+        ∙ (total-same (λ n. saying test n d (along (says_by n) (opened s j) (deeds_of s j))) (λ n. passing test n d (taken_from n j.entries)) (λ n. ap (saying test n d) (sym (said_along n j.line.domain j.line.nodes (neighbours s j.line) (deeds_of s j) (from_peer s js board run j on.0 on.1 n).known)) ∙ ap (passing test n d) (sym (on.0.told.takes n))) (numbers_of s j.line)
         ∙ (total-map (λ n. passing test n d (taken_from n j.entries)) (λ (k : Neighbour). k.number) (neighbours s j.line)
-        ∙ ap (λ o. total (λ k. passing test k.number d (taken_from k.number (journal_in o))) (neighbours s j.line)) (sym on.found)))
+        ∙ ap (λ o. total (λ k. passing test k.number d (taken_from k.number (journal_in o))) (neighbours s j.line)) (sym on.0.found)))
 
     -- what was taken, dropped and left in queues
     abbrev kept_by : DomainJournal → ℕ
@@ -110,15 +106,15 @@ module _ (s : Scenario) (js : List DomainJournal) (board : IsLinkedBoard s) (run
     journal_kept : (j : DomainJournal) → Placed j → kept_by j ≡ brought j
     journal_kept j on =
         let made : ℕ = (left_in s j).endpoints_given in
-        let few : all_succeed (deeds_of s j) + 1 < 2 ^ 64 = on.deeds.few in
+        let few : all_succeed (deeds_of s j) + 1 < 2 ^ 64 = on.0.deeds.few in
         let serials : Serials (all_succeed (deeds_of s j)) (opened s j) = record { differ = tt; below = tt; small = omega arith } in
-        let balance = run_balanced j.line.domain test made (numbers_of s j.line) (opened s j) (deeds_of s j) on.told.run.may (run_queues j.line.domain j.line.nodes (neighbours s j.line) (deeds_of s j) on.told.run few) (omega arith) (sound_opening made anything j.line.domain j.line.nodes (neighbours s j.line)) serials in
+        let balance = run_balanced j.line.domain test made (numbers_of s j.line) (opened s j) (deeds_of s j) on.0.told.run.may (run_queues j.line.domain j.line.nodes (neighbours s j.line) (deeds_of s j) on.0.told.run few) (omega arith) (sound_opening made anything j.line.domain j.line.nodes (neighbours s j.line)) serials in
         omega (arith, balance)
 
     -- ---- all journals
 
     each : (f g : DomainJournal → ℕ) → ((j : DomainJournal) → Placed j → f j ≡ g j) → total f js ≡ total g js
-    each f g same = total-each f g js (all-weaken Placed (λ j. f j ≡ g j) same js (each_on_board s js board run))
+    each f g same = total-each f g js (all-weaken Placed (λ j. f j ≡ g j) same js all_placed)
 
     accepted_total : count_by test (accepted s js) ≡ over_lanes put_from s
     accepted_total =
@@ -144,8 +140,10 @@ module _ (s : Scenario) (js : List DomainJournal) (board : IsLinkedBoard s) (run
         let a : ℕ = l.sender in
         let b : ℕ = l.receiver in
         let front : List (List ℕ) = taken_from a (journal_of b js) in
-        let rest : drop (length front) (put_to b (journal_of a js)) ≡ fits.taken_first.0 = ap (drop (length front)) fits.taken_first.1 ∙ drop_at front fits.taken_first.0 (length front) refl in
-        ap (passing test a b) fits.taken_first.1 ∙ (passing-append test a b front fits.taken_first.0 ∙ ap (λ (fs : List (List ℕ)). passing test a b front + passing test a b fs) (sym rest))
+        let after : List Reading = readings (part_after None front) fits.taken_first.0 in
+        let split : readings None (put_to b (journal_of a js)) ≡ readings None front ++ after = ap (readings None) fits.taken_first.1 ∙ readings-append None front fits.taken_first.0 in
+        let rest : drop (length front) (readings None (put_to b (journal_of a js))) ≡ after = ap (drop (length front)) split ∙ drop_at (readings None front) after (length front) (readings-length None front) in
+        ap (saying test a b) split ∙ (saying-append test a b (readings None front) after ∙ ap (λ (rs : List Reading). passing test a b front + saying test a b rs) (sym rest))
 
     all_parts : (ls : List Lane) → AllByRecursion (LaneFits s js) ls →
         total (λ l. put_from l.sender l.receiver) ls ≡ total (λ l. taken_at l.sender l.receiver) ls + total (λ l. ringing l.sender l.receiver) ls

@@ -1,4 +1,6 @@
 -- The items of one domain are kept: what its frames bring is taken or dropped, or is queued, deed by deed.
+use Rattle.board_model.specs.Parts.{Came, came_from, said_from}
+use Rattle.mc_base.specs.Pieces.{frames_needed}
 use Rattle.std.proofs.Common.{◌≡◌, ℕ, ◌+◌, Bool, true, false, cond, List, [], ◌∷◌, ◌++◌, map, find, filter, Option, Some, None, option_to_list, refl, sym, ap, ◌∙◌, subst, arith}
 use Rattle.std.specs.Prelude.{count_by, length, is_none, is_some, option_map, ◌&&◌, ◌||◌}
 use Rattle.std.specs.List.{AllByRecursion, list_any}
@@ -7,7 +9,7 @@ use Rattle.std.proofs.lemmas.List.{append-nil}
 use Rattle.std.proofs.lemmas.List.Elements.{filter-append}
 use Rattle.byteorder.specs.Endian.{little_bytes}
 use Rattle.mc_base.specs.Letter.{PlainLetter, msg, packet, scalar, bytes_of_bits}
-use Rattle.mc_base.specs.Reading.{Reading, is_faulty, announces, says, reading}
+use Rattle.mc_base.specs.Reading.{Reading, is_faulty, announces, says, brings}
 use Rattle.mc_base.specs.declared.name.Local.{Local}
 use Rattle.mc_base.specs.declared.name.EndName.{EndName}
 use Rattle.mc_base.specs.declared.channel.Kind.TheVariants.{Packet, Scalar}
@@ -23,16 +25,16 @@ use Rattle.board_model.specs.Choice.{best, oldest}
 use Rattle.board_model.specs.DomainCall.{DomainCall, create_at, delete_at, lookup_of, send_from, receive_at, request_at, available_at, connect_from, open_at, packet_from, lend_at, packet_request_at, release_of, scalar_from, scalar_at, close_at, test_of, wait_for, cancel_of, raw_to, turn_alone}
 use Rattle.board_model.specs.Journal.{PlainAnswer, refuses, agrees, tells, connects, gives, completes}
 use Rattle.board_model.specs.State.{Item, ChannelEnd, Endpoint, name_of, channel_of, message_at, packet_at, has_address, has_item, has_ended, Request, DomainState, is_at, has_address_of, live_at, endpoint_at, endpoint_of, request_at_place, queue_at, queue_in, one_waits, oldest_waiting, receives_at, waits_at}
-use Rattle.board_model.specs.Change.{Change, item_handed, item_queued, item_lost, channel_set, frame_taken, endpoint_gone, best_gone, oldest_gone, request_added, request_gone, waiting_ended, name_found, connect_settled, end_announced, reply_owed, names_known, buffer_used, packet_lent, packet_gone, channel_given, endpoint_with, all_done, done_with, asks_for, connects_on, handed_in, ended_in, with_queue, with_channel, at_address, changed, changed_all}
+use Rattle.board_model.specs.Change.{Change, item_handed, item_queued, item_lost, channel_set, frame_taken, endpoint_gone, best_gone, oldest_gone, request_added, request_gone, waiting_ended, name_found, connect_settled, end_announced, reply_owed, names_known, buffers_used, packet_lent, packet_gone, channel_given, endpoint_with, all_done, done_with, asks_for, connects_on, handed_in, ended_in, with_queue, with_channel, at_address, changed, changed_all}
 use Rattle.board_model.specs.ChannelEnds.{receives, opened_end, closed_end}
 use Rattle.board_model.specs.TakenFrames.{Row, row, rejecting, accepting, acting, item_of, message_item, channel_item, message_rows, letter_rows, first_row, row_of}
 use Rattle.board_model.specs.Answer.{first_complete, local, address_of, given, holds, words_of, refusal, success, answer_by, unless_refused}
 use Rattle.board_model.specs.CallChanges.{at_live, at_end, best_item, new_sender, closing, lending, success_changes}
-use Rattle.board_model.specs.Deeds.{Deed, looks_back, puts_owed, looks_ahead, takes, calls, after_deed, MayDo}
+use Rattle.board_model.specs.Deeds.{Deed, looks_back, puts_owed, looks_ahead, takes, calls, after_deed, MayDo, taken_change}
 use Rattle.board_model.specs.Messages.{Message, message_of, said_by, is_message_item, queued_at}
 use Rattle.board_model.specs.Drops.{drops, dropped_by}
 use Rattle.board_model.specs.Takings.{Taking, taking, is_message_taking, taken_message, answered_by, item_held, asked_address, takings_by}
-use Rattle.board_model.proofs.LaneRows.{Carried, Deals, stays, learns, forgets, hands, queues, loses, rejects, accepts, acts, acting-all, row-deals}
+use Rattle.board_model.proofs.LaneRows.{Carried, Deals, stays, strays, awaits, learns, forgets, hands, queues, loses, rejects, accepts, acts, acting-all, row-deals}
 use Rattle.board_model.proofs.ListsCounts.{one_if, count-cons}
 use Rattle.board_model.proofs.MessageAlls.{none-passes, all-found, all-weaken, found-passes}
 use Rattle.board_model.proofs.MessageLists.{get-position}
@@ -49,7 +51,7 @@ use Rattle.board_model.proofs.KeptItems.{OnSome, weight, took, took-item, best_w
 
 -- the messages of the frames that a deed takes
 abbrev pub brought_by : ℕ → DomainState → Deed → List Message
-brought_by r s (takes peer name frame word) = said_by peer r (reading frame)
+brought_by r s (takes peer name frame word) = said_by peer r (said_from s peer frame)
 brought_by r s other = []
 
 found_one : (at : Local) (rs : List Request) → list_any (waits_at at) rs ≡ true → is_some (find (waits_at at) rs) ≡ true
@@ -67,9 +69,9 @@ Mild (waiting_ended a w) = Unit {0}
 Mild (name_found n a) = Unit {0}
 Mild (connect_settled n o) = item_held (Some o) ≡ []
 Mild (reply_owed q reply) = Unit {0}
-Mild (frame_taken q) = Unit {0}
+Mild (frame_taken q part names) = Unit {0}
 Mild (names_known q ks) = Unit {0}
-Mild (buffer_used q) = Unit {0}
+Mild (buffers_used q count) = Unit {0}
 Mild (request_gone place) = Unit {0}
 Mild (item_lost a i) = Unit {0}
 Mild (packet_lent i) = Unit {0}
@@ -86,9 +88,9 @@ mild_old s t (waiting_ended a w) mild old = go (endpoint_of t a)
 mild_old s t (name_found n a) mild old = old_mapped s (all_done (asks_for n) (has_address a)) (λ q was. old_done s (is_none q.outcome && asks_for n q.asked) (has_address a) q refl was) t.requests old
 mild_old s t (connect_settled n o) mild old = old_mapped s (all_done (connects_on n) o) (λ q was. old_done s (is_none q.outcome && connects_on n q.asked) o q mild was) t.requests old
 mild_old s t (reply_owed q reply) mild old = old
-mild_old s t (frame_taken q) mild old = old
+mild_old s t (frame_taken q part names) mild old = old
 mild_old s t (names_known q ks) mild old = old
-mild_old s t (buffer_used q) mild old = old
+mild_old s t (buffers_used q count) mild old = old
 mild_old s t (request_gone place) mild old = old_without s place t.requests old
 mild_old s t (item_lost a i) mild old = old
 mild_old s t (packet_lent i) mild old = old
@@ -102,9 +104,9 @@ module _ (r : ℕ) (test : Message → Bool) where
   mild_weight t (name_found n a) mild = refl
   mild_weight t (connect_settled n o) mild = refl
   mild_weight t (reply_owed q reply) mild = refl
-  mild_weight t (frame_taken q) mild = refl
+  mild_weight t (frame_taken q part names) mild = refl
   mild_weight t (names_known q ks) mild = refl
-  mild_weight t (buffer_used q) mild = refl
+  mild_weight t (buffers_used q count) mild = refl
   mild_weight t (request_gone place) mild = refl
   mild_weight t (item_lost a i) mild = refl
   mild_weight t (packet_lent i) mild = refl
@@ -161,10 +163,10 @@ module _ (r : ℕ) (test : Message → Bool) where
     no_said false = refl
 
     -- a frame that says no message
-    abbrev Leads : ℕ → Option ℕ → Reading → Fate → Type 0
-    Leads q name rd word = let t = changed_all s (frame_taken q ∷ (row_of s q name rd).happens) in Balance s (said_by q r rd) (taken_of s t.requests) (cond (drops word) (said_by q r rd) []) t.endpoints
+    abbrev Leads : ℕ → Came → Reading → Fate → Type 0
+    Leads q name rd word = let t = changed_all s (taken_change q name ∷ (row_of s q name rd).happens) in Balance s (said_by q r rd) (taken_of s t.requests) (cond (drops word) (said_by q r rd) []) t.endpoints
 
-    idle_leads : (q : ℕ) (name : Option ℕ) (rd : Reading) (word : Fate) → said_by q r rd ≡ [] → Idles (frame_taken q ∷ (row_of s q name rd).happens) → Leads q name rd word
+    idle_leads : (q : ℕ) (name : Came) (rd : Reading) (word : Fate) → said_by q r rd ≡ [] → Idles (taken_change q name ∷ (row_of s q name rd).happens) → Leads q name rd word
     idle_leads q name rd word silent idles =
         omega (arith, ap (count_by test) silent, ap (λ (xs : List Taking). count_by test (map (taken_message r) xs)) idles.nothing_taken, ap (λ (ms : List Message). count_by test (cond (drops word) ms [])) silent, no_said (drops word), idles.same)
 
@@ -172,35 +174,37 @@ module _ (r : ℕ) (test : Message → Bool) where
     says_one : (q source at priority : ℕ) (content : List ℕ) (rd : Reading) → rd ≡ says source at (msg priority content) → said_by q r rd ≡ [] → ⊥
     says_one q source at priority content rd is silent = let none : said_by q r (says source at (msg priority content)) ≡ [] = subst (λ x. said_by q r x ≡ []) is silent in absurd cc
 
-    silent_idles : (q : ℕ) (name : Option ℕ) (rd : Reading) → said_by q r rd ≡ [] → Idles (frame_taken q ∷ (row_of s q name rd).happens)
+    silent_idles : (q : ℕ) (name : Came) (rd : Reading) → said_by q r rd ≡ [] → Idles (taken_change q name ∷ (row_of s q name rd).happens)
     silent_idles q name rd silent = go (row-deals s q name rd)
       where
-        by : (cs : List Change) → (row_of s q name rd).happens ≡ cs → Idles (frame_taken q ∷ cs) → Idles (frame_taken q ∷ (row_of s q name rd).happens)
-        by cs happens idles = subst (λ xs. Idles (frame_taken q ∷ xs)) (sym happens) idles
+        by : (cs : List Change) → (row_of s q name rd).happens ≡ cs → Idles (taken_change q name ∷ cs) → Idles (taken_change q name ∷ (row_of s q name rd).happens)
+        by cs happens idles = subst (λ xs. Idles (taken_change q name ∷ xs)) (sym happens) idles
 
-        on_channel : (at number source : ℕ) (content : List ℕ) (e : Endpoint) → endpoint_of s at ≡ Some e → Idles (frame_taken q ∷ item_queued at (channel_item q name source number content) ∷ [])
+        on_channel : (at number source : ℕ) (content : List ℕ) (e : Endpoint) → endpoint_of s at ≡ Some e → Idles (taken_change q name ∷ item_queued at (channel_item q name source number content) ∷ [])
         on_channel at number source content e found = record { nothing_taken = ap (filter is_message_taking) none_new; same = weight-queued r test at (channel_item q name source number content) e s.endpoints found ∙ omega arith }
 
-        to_request : (at : ℕ) (i : Item) (e : Endpoint) → is_none i.channel ≡ false → endpoint_of s at ≡ Some e → Idles (frame_taken q ∷ item_handed at i ∷ [])
+        to_request : (at : ℕ) (i : Item) (e : Endpoint) → is_none i.channel ≡ false → endpoint_of s at ≡ Some e → Idles (taken_change q name ∷ item_handed at i ∷ [])
         to_request at i e none found = record {
           nothing_taken = ap (λ x. filter is_message_taking (taken_of s (handed_in x i s.requests))) found ∙ (ap (filter is_message_taking) (handed_takes s e i serials.differ) ∙ waiter-no-message s i none (oldest_waiting s e.local));
           same = refl;
         }
 
-        handed_idles : (source at : ℕ) (l : PlainLetter) (e : Endpoint) → rd ≡ says source at l → endpoint_of s at ≡ Some e → Carried q e l → Idles (frame_taken q ∷ item_handed at (item_of q name source l) ∷ [])
+        handed_idles : (source at : ℕ) (l : PlainLetter) (e : Endpoint) → rd ≡ says source at l → endpoint_of s at ≡ Some e → Carried q e l → Idles (taken_change q name ∷ item_handed at (item_of q name source l) ∷ [])
         handed_idles source at (msg priority content) e is found carried = absurd (says_one q source at priority content rd is silent)
         handed_idles source at (packet number content) e is found carried = to_request at (channel_item q name source number content) e refl found
         handed_idles source at (scalar number bits value) e is found carried = to_request at (channel_item q name source number (little_bytes (bytes_of_bits bits) value)) e refl found
         handed_idles source at other e is found carried = absurd carried
 
-        queued_idles : (source at : ℕ) (l : PlainLetter) (e : Endpoint) → rd ≡ says source at l → endpoint_of s at ≡ Some e → Carried q e l → Idles (frame_taken q ∷ item_queued at (item_of q name source l) ∷ [])
+        queued_idles : (source at : ℕ) (l : PlainLetter) (e : Endpoint) → rd ≡ says source at l → endpoint_of s at ≡ Some e → Carried q e l → Idles (taken_change q name ∷ item_queued at (item_of q name source l) ∷ [])
         queued_idles source at (msg priority content) e is found carried = absurd (says_one q source at priority content rd is silent)
         queued_idles source at (packet number content) e is found carried = on_channel at number source content e found
         queued_idles source at (scalar number bits value) e is found carried = on_channel at number source (little_bytes (bytes_of_bits bits) value) e found
         queued_idles source at other e is found carried = absurd carried
 
-        go : Deals s q name rd (row_of s q name rd) → Idles (frame_taken q ∷ (row_of s q name rd).happens)
-        go (stays happens word) = by [] happens (mild_idles (frame_taken q ∷ []) (tt, tt))
+        go : Deals s q name rd (row_of s q name rd) → Idles (taken_change q name ∷ (row_of s q name rd).happens)
+        go (stays happens word) = by [] happens (mild_idles (taken_change q name ∷ []) (tt, tt))
+        go (strays source at p is none happens word) = by [] happens (mild_idles (taken_change q name ∷ []) (tt, tt))
+        go (awaits source at p is some happens word) = by [] happens (mild_idles (taken_change q name ∷ []) (tt, tt))
         go (learns text n a names is learned_so happens word) = by (names_known q names ∷ name_found n a ∷ []) happens (mild_idles _ (tt, (tt, (tt, tt))))
         go (forgets text n a names is forgotten_so happens word) = by (names_known q names ∷ []) happens (mild_idles _ (tt, (tt, tt)))
         go (hands source at l e is found carried waits happens word) = by (item_handed at (item_of q name source l) ∷ []) happens (handed_idles source at l e is found carried)
@@ -208,13 +212,13 @@ module _ (r : ℕ) (test : Message → Bool) where
         go (loses source at l e is found late happens word) = by (item_lost at (item_of q name source l) ∷ []) happens (mild_idles _ (tt, (tt, tt)))
         go (rejects source at number kind why is happens word) = by (rejecting q source at number why) happens (mild_idles _ (tt, (tt, tt)))
         go (accepts source at number kind e is found free idle happens word) = by (accepting q source at number kind) happens (mild_idles _ (tt, (tt, (tt, tt))))
-        go (acts source at l e c left is found has row happens word) = by (acting at left l) happens (mild_idles (frame_taken q ∷ acting at left l) (tt, acting-all Mild at left tt (λ n. refl) (λ n why. refl) tt l))
+        go (acts source at l e c left is found has row happens word) = by (acting at left l) happens (mild_idles (taken_change q name ∷ acting at left l) (tt, acting-all Mild at left tt (λ n. refl) (λ n why. refl) tt l))
 
     -- messages, by the endpoint with the destination's address
-    module _ (q : ℕ) (name : Option ℕ) (src dst : ℕ) where
+    module _ (q : ℕ) (name : Came) (src dst : ℕ) where
       -- what a row leads to
       abbrev Arrives : Row → List Message → Fate → Type 0
-      Arrives row ms word = let t = changed_all s (frame_taken q ∷ row.happens) in Balance s ms (taken_of s t.requests) (cond (drops word) ms []) t.endpoints
+      Arrives row ms word = let t = changed_all s (taken_change q name ∷ row.happens) in Balance s ms (taken_of s t.requests) (cond (drops word) ms []) t.endpoints
 
       dropped : (w : Fate) → drops w ≡ true → (ms : List Message) (word : Fate) → w ≡ word → Balance s ms (taken_of s s.requests) (cond (drops word) ms []) s.endpoints
       dropped w lost ms word is = subst (λ v. Balance s ms (taken_of s s.requests) (cond (drops v) ms []) s.endpoints) is (omega (arith, ap (took r test) none_new, ap (λ (b : Bool). count_by test (cond b ms [])) lost))
@@ -260,9 +264,10 @@ module _ (r : ℕ) (test : Message → Bool) where
             at None k = by (one_waits s e.local) refl k
             at (Some c) k = dropped fate.OnChannel refl (message_of r dst brought ∷ []) word k
 
-    take_leads : (q : ℕ) (name : Option ℕ) (rd : Reading) (word : Fate) → (row_of s q name rd).word ≡ word → Leads q name rd word
+    take_leads : (q : ℕ) (name : Came) (rd : Reading) (word : Fate) → (row_of s q name rd).word ≡ word → Leads q name rd word
     take_leads q name (is_faulty w) word is = idle_leads q name (is_faulty w) word refl (silent_idles q name (is_faulty w) refl)
     take_leads q name (announces text a there) word is = idle_leads q name (announces text a there) word refl (silent_idles q name (announces text a there) refl)
+    take_leads q name (brings src dst p) word is = idle_leads q name (brings src dst p) word refl (silent_idles q name (brings src dst p) refl)
     take_leads q name (says src dst (msg priority content)) word is = letter q name src dst priority content (endpoint_of s dst) refl word is
     take_leads q name (says src dst l) word is = idle_leads q name (says src dst l) word refl (silent_idles q name (says src dst l) refl)
 
@@ -336,7 +341,7 @@ module _ (r : ℕ) (test : Message → Bool) where
     -- ---- calls at the end of a channel
 
     connected : (x : Option Endpoint) (at : Local) (peer n : ℕ) (c : ChannelEnd) → live_at s at ≡ x →
-        let t = changed_all s (at_live x (λ e. buffer_used peer ∷ channel_set e.address (Some c) ∷ request_added (channel_of n) None ∷ channel_given ∷ [])) in
+        let t = changed_all s (at_live x (λ e. buffers_used peer 1 ∷ channel_set e.address (Some c) ∷ request_added (channel_of n) None ∷ channel_given ∷ [])) in
         Balance s [] (taken_of s t.requests) [] t.endpoints
     connected None at peer n c found = nothing s (taken_of s s.requests) s.endpoints none_new refl
     connected (Some e) at peer n c found = nothing s _ (at_address e.address (with_channel (Some c)) s.endpoints) (added_takes s (channel_of n) None serials.below) (weight-set r test e.address (Some c) s.endpoints)
@@ -393,8 +398,8 @@ module _ (r : ℕ) (test : Message → Bool) where
         go [] all = refl
         go (i ∷ q) all = no-messages (Some s.requests_given) i all.0 (asked_address s (packet_at e.local))
 
-    put_leads : (at : Local) → Idles (at_end (live_at s at) (λ e c. buffer_used c.peer ∷ []))
-    put_leads at = end-holds Idles (mild_idles [] tt) (live_at s at) (λ e c. buffer_used c.peer ∷ []) (λ e c found has. mild_idles (buffer_used c.peer ∷ []) (tt, tt))
+    put_leads : (count : ChannelEnd → ℕ) (at : Local) → Idles (at_end (live_at s at) (λ e c. buffers_used c.peer (count c) ∷ []))
+    put_leads count at = end-holds Idles (mild_idles [] tt) (live_at s at) (λ e c. buffers_used c.peer (count c) ∷ []) (λ e c found has. mild_idles (buffers_used c.peer (count c) ∷ []) (tt, tt))
 
     closed_receiver : (at : Local) (e : Endpoint) (c : ChannelEnd) → live_at s at ≡ Some e → e.channel ≡ Some c → Idles (closing Receiver e c)
     closed_receiver at e c found has =
@@ -406,8 +411,8 @@ module _ (r : ℕ) (test : Message → Bool) where
     closed_leads Sender at = end-holds Idles (mild_idles [] tt) (live_at s at) (closing Sender) (λ e c found has. mild_idles (closing Sender e c) (tt, (tt, tt)))
     closed_leads Receiver at = end-holds Idles (mild_idles [] tt) (live_at s at) (closing Receiver) (λ e c found has. closed_receiver at e c found has)
 
-    opened_leads : (at : Local) → Idles (at_end (live_at s at) (λ e c. buffer_used c.peer ∷ channel_set e.address (Some (opened_end c)) ∷ []))
-    opened_leads at = end-holds Idles (mild_idles [] tt) (live_at s at) (λ e c. buffer_used c.peer ∷ channel_set e.address (Some (opened_end c)) ∷ []) (λ e c found has. mild_idles (buffer_used c.peer ∷ channel_set e.address (Some (opened_end c)) ∷ []) (tt, (tt, tt)))
+    opened_leads : (at : Local) → Idles (at_end (live_at s at) (λ e c. buffers_used c.peer 1 ∷ channel_set e.address (Some (opened_end c)) ∷ []))
+    opened_leads at = end-holds Idles (mild_idles [] tt) (live_at s at) (λ e c. buffers_used c.peer 1 ∷ channel_set e.address (Some (opened_end c)) ∷ []) (λ e c found has. mild_idles (buffers_used c.peer 1 ∷ channel_set e.address (Some (opened_end c)) ∷ []) (tt, (tt, tt)))
 
     -- ---- each call
 
@@ -428,7 +433,7 @@ module _ (r : ℕ) (test : Message → Bool) where
     success_leads node (available_at port) words = nothing s _ s.endpoints none_new refl
     success_leads node (connect_from port to kind) words = connected (live_at s (local node port)) (local node port) to.domain (s.channels_given + 1) (new_sender s to kind) refl
     success_leads node (open_at port side kind) words = idle _ (opened_leads (local node port))
-    success_leads node (packet_from port bytes) words = idle _ (put_leads (local node port))
+    success_leads node (packet_from port bytes) words = idle _ (put_leads (λ c. frames_needed (packet c.number bytes)) (local node port))
     success_leads node (lend_at port) words =
         let at : Local = local node port in
         let there = end-there (receives Packet (length (queue_at s at))) (live_at s at) words.1.0 in
@@ -439,7 +444,7 @@ module _ (r : ℕ) (test : Message → Bool) where
         let there = end-there (receives Packet (length (queue_at s at))) (live_at s at) words.1.0 in
         idle (success_changes s node (packet_request_at port)) (subst (λ x. Idles (at_live x (λ e. oldest_gone e.address ∷ request_added (packet_at e.local) (option_map has_item (oldest e.queue)) ∷ []))) (sym there.live) (packet_asked at there.end there.channel there.live there.has))
     success_leads node (release_of place) words = nothing s _ s.endpoints none_new refl
-    success_leads node (scalar_from port bits value) words = idle _ (put_leads (local node port))
+    success_leads node (scalar_from port bits value) words = idle _ (put_leads (λ c. 1) (local node port))
     success_leads node (scalar_at port bits) words =
         let at : Local = local node port in
         let there = end-there (receives Scalar (length (queue_at s at))) (live_at s at) words.1.0 in
@@ -479,5 +484,5 @@ module _ (r : ℕ) (test : Message → Bool) where
     deed_balanced (looks_back q n) may = nothing s _ s.endpoints none_new refl
     deed_balanced (puts_owed q frame) may = nothing s _ s.endpoints none_new refl
     deed_balanced (looks_ahead q n) may = nothing s _ s.endpoints none_new refl
-    deed_balanced (takes q name frame word) may = take_leads q name (reading frame) word may
+    deed_balanced (takes q name frame word) may = take_leads q (came_from s q name frame) (said_from s q frame) word may
     deed_balanced (calls node call a) may = call_leads node call (refusal s node call) a refl may

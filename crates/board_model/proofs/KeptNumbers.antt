@@ -1,6 +1,6 @@
 -- On a board of linked domains the lines of the journals tell how many messages were accepted and dropped, and are in the ring.
 -- Those that were taken are the rest.
-use Rattle.std.proofs.Common.{◌≡◌, ℕ, ◌+◌, ◌-◌, ◌≤◌, List, [], ◌∷◌, length, map, filter, sum_by, refl, sym, ap, ◌∙◌, subst, arith}
+use Rattle.std.proofs.Common.{◌≡◌, ℕ, ◌+◌, ◌-◌, ◌≤◌, List, [], ◌∷◌, None, length, map, filter, sum_by, refl, sym, ap, ◌∙◌, subst, arith}
 use Rattle.std.specs.Prelude.{count_by}
 use Rattle.std.specs.List.{flat_map}
 use Rattle.std.proofs.lemmas.List.{length-append, length-map}
@@ -27,13 +27,13 @@ use Rattle.board_model.proofs.MessageOnce.{total, total-each, total-same, length
 use Rattle.board_model.proofs.OrderLaws.{run_queues}
 use Rattle.board_model.proofs.PlaceBoards.{neighbours_differ}
 use Rattle.board_model.proofs.HonestRuns.{anything, sound_opening}
-use Rattle.board_model.proofs.HonestBoard.{OnBoard, each_on_board}
-use Rattle.board_model.proofs.KeptBoard.{brought, journal-accepted, accepted-parts, no-message-lost}
+use Rattle.board_model.proofs.PartLaw.{journal_closed, kept_along}
+use Rattle.board_model.proofs.KeptBoard.{Placed, all_placed, brought, journal-accepted, accepted-parts, no-message-lost}
 use Rattle.board_model.proofs.KeptLanes.{passing}
 use Rattle.board_model.proofs.KeptLines.{any, said_frames}
 use Rattle.board_model.proofs.KeptSent.{AreOn, run_on, sent-told}
 use Rattle.board_model.proofs.KeptTells.{numbers_of}
-use Rattle.board_model.proofs.KeptTold.{brought-deeds, brought-told, lost-deeds, lost-told}
+use Rattle.board_model.proofs.KeptTold.{never-stray, brought-deeds, brought-told, lost-deeds, lost-told}
 
 -- the numbers that lines tell, of one journal and of all
 abbrev pub sent : DomainJournal → ℕ
@@ -73,35 +73,35 @@ queued_each d (e ∷ es) =
     )
 
 module _ (s : Scenario) (js : List DomainJournal) (board : IsLinkedBoard s) (run : IsBoardRun s js) where
-  abbrev Placed : DomainJournal → Type 0
-  Placed j = OnBoard s js board run j
+  abbrev On : DomainJournal → Type 0
+  On j = Placed s js board run j
 
-  allowed : (j : DomainJournal) → Placed j → AllAllowed (script s j.line.domain) (start s j.line) j.entries
-  allowed j on = allowed-all (script s j.line.domain) (start s j.line) (left_by s j.line j.entries) j.entries on.is_run.steps
+  allowed : (j : DomainJournal) → On j → AllAllowed (script s j.line.domain) (start s j.line) j.entries
+  allowed j on = allowed-all (script s j.line.domain) (start s j.line) (left_by s j.line j.entries) j.entries on.0.is_run.steps
 
-  journal_sent : (j : DomainJournal) → Placed j → length (accepted_in s j) ≡ sent j
+  journal_sent : (j : DomainJournal) → On j → length (accepted_in s j) ≡ sent j
   journal_sent j on =
       let d : ℕ = j.line.domain in
       let ns : List ℕ = numbers_of s j.line in
       let made : ℕ = (left_in s j).endpoints_given in
-      let lines_sent = sent-told ns j.entries (λ q. subst (AreOn ns q) (sym (on.told.puts q)) (run_on made ns (neighbours_differ s board j.line) q (opened s j) (deeds_of s j) on.told.run.may (omega arith) (sound_opening made anything d j.line.nodes (neighbours s j.line)))) in
+      let lines_sent = sent-told ns j.entries (λ q. subst (AreOn ns q) (sym (on.0.told.puts q)) (run_on made ns (neighbours_differ s board j.line) q (opened s j) (deeds_of s j) on.0.told.run.may (omega arith) (sound_opening made anything d j.line.nodes (neighbours s j.line)))) in
       sym (count-every (accepted_in s j))
       ∙ (journal-accepted s js board run any j on
-      ∙ (total-same (λ n. passing any d n (put_to n j.entries)) (λ n. count_by carries_message (put_to n j.entries)) (λ n. said_frames d n (put_to n j.entries)) ns
+      ∙ (total-same (λ n. passing any d n (put_to n j.entries)) (λ n. count_by carries_message (put_to n j.entries)) (λ n. said_frames d n None (put_to n j.entries) (journal_closed s js board run j on.0 n).smooth) ns
       ∙ sym lines_sent))
 
-  journal_brought : (j : DomainJournal) → Placed j → brought s js board run any j ≡ came j
-  journal_brought j on = brought-deeds j.line.domain (opened s j) (deeds_of s j) ∙ brought-told (script s j.line.domain) [] (start s j.line) j.entries
+  journal_brought : (j : DomainJournal) → On j → brought s js board run any j ≡ came j
+  journal_brought j on = brought-deeds j.line.domain (opened s j) (deeds_of s j) on.0.told.run.may (never-stray (opened s j) [] (deeds_of s j) (kept_along s js board run j on.0 on.1 [] (deeds_of s j) refl on.0.told.run.may)) ∙ brought-told (script s j.line.domain) [] (start s j.line) j.entries
 
-  journal_lost : (j : DomainJournal) → Placed j → length (dropped_in s j) ≡ lost s j
+  journal_lost : (j : DomainJournal) → On j → length (dropped_in s j) ≡ lost s j
   journal_lost j on =
-      sym (count-every (dropped_in s j)) ∙ (lost-deeds j.line.domain (opened s j) (deeds_of s j) (run_queues j.line.domain j.line.nodes (neighbours s j.line) (deeds_of s j) on.told.run on.deeds.few) on.told.run.may ∙ lost-told (script s j.line.domain) [] (start s j.line) j.entries (allowed j on))
+      sym (count-every (dropped_in s j)) ∙ (lost-deeds j.line.domain (opened s j) (deeds_of s j) (run_queues j.line.domain j.line.nodes (neighbours s j.line) (deeds_of s j) on.0.told.run on.0.deeds.few) on.0.told.run.may ∙ lost-told (script s j.line.domain) [] (start s j.line) j.entries (allowed j on))
 
-  journal_queued : (j : DomainJournal) → Placed j → length (queued_in s j) ≡ length (filter is_message_item (queued_items (left_by s j.line j.entries).state))
-  journal_queued j on = queued_each j.line.domain (left_in s j).endpoints ∙ ap (λ (t : DomainState). length (filter is_message_item (queued_items t))) (sym on.told.state)
+  journal_queued : (j : DomainJournal) → On j → length (queued_in s j) ≡ length (filter is_message_item (queued_items (left_by s j.line j.entries).state))
+  journal_queued j on = queued_each j.line.domain (left_in s j).endpoints ∙ ap (λ (t : DomainState). length (filter is_message_item (queued_items t))) (sym on.0.told.state)
 
-  each : (f g : DomainJournal → ℕ) → ((j : DomainJournal) → Placed j → f j ≡ g j) → total f js ≡ total g js
-  each f g same = total-each f g js (all-weaken Placed (λ j. f j ≡ g j) same js (each_on_board s js board run))
+  each : (f g : DomainJournal → ℕ) → ((j : DomainJournal) → On j → f j ≡ g j) → total f js ≡ total g js
+  each f g same = total-each f g js (all-weaken On (λ j. f j ≡ g j) same js (all_placed s js board run))
 
   pub numbers-told : NumbersTold s js
   numbers-told =

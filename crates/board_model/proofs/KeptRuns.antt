@@ -1,17 +1,18 @@
 -- The items of one domain are kept along a run of deeds; and what the run's frames bring is counted lane by lane.
+use Rattle.board_model.specs.Parts.{Came, came_from, said_from}
 use Rattle.std.proofs.Common.{◌≡◌, ℕ, ◌+◌, ◌-◌, ◌≤◌, Bool, List, [], ◌∷◌, ◌++◌, map, filter, refl, ap, ◌∙◌, arith}
 use Rattle.std.specs.Prelude.{count_by, Option}
 use Rattle.std.proofs.lemmas.List.{map-append}
 use Rattle.std.proofs.lemmas.List.Elements.{filter-append}
 use Rattle.mc_base.specs.Letter.{PlainLetter, accept, reject, send_close}
-use Rattle.mc_base.specs.Reading.{Reading, reading}
+use Rattle.mc_base.specs.Reading.{Reading}
 use Rattle.board_model.specs.State.{ChannelEnd, DomainState}
 use Rattle.board_model.specs.TakenFrames.{acting, row_of}
 use Rattle.board_model.specs.Deeds.{Deed, looks_back, puts_owed, looks_ahead, takes, calls, happens_by, after_deed, after_deeds, MayDo, AllMayDo, along}
 use Rattle.board_model.specs.Messages.{Message}
 use Rattle.board_model.specs.Drops.{dropped_by}
 use Rattle.board_model.specs.Takings.{Taking, is_message_taking, takings_by, taken_message}
-use Rattle.board_model.proofs.LaneRows.{Deals, stays, learns, forgets, hands, queues, loses, rejects, accepts, acts, row-deals}
+use Rattle.board_model.proofs.LaneRows.{Deals, stays, strays, awaits, learns, forgets, hands, queues, loses, rejects, accepts, acts, row-deals}
 use Rattle.board_model.proofs.ListsCounts.{count-append}
 use Rattle.board_model.proofs.OrderGiven.{call_given}
 use Rattle.board_model.proofs.OrderLaws.{AllQueues}
@@ -24,7 +25,7 @@ use Rattle.board_model.proofs.KeptDeeds.{brought_by, deed_balanced}
 
 -- ---- how many requests are given: one at most by a call that is not refused
 
-frame_gives : (s : DomainState) (q : ℕ) (name : Option ℕ) (rd : Reading) → given_by_all (row_of s q name rd).happens ≡ 0
+frame_gives : (s : DomainState) (q : ℕ) (name : Came) (rd : Reading) → given_by_all (row_of s q name rd).happens ≡ 0
 frame_gives s q name rd = go (row-deals s q name rd)
   where
     acting_gives : (at : ℕ) (left : Option ChannelEnd) (l : PlainLetter) → given_by_all (acting at left l) ≡ 0
@@ -35,6 +36,8 @@ frame_gives s q name rd = go (row-deals s q name rd)
 
     go : Deals s q name rd (row_of s q name rd) → given_by_all (row_of s q name rd).happens ≡ 0
     go (stays happens word) = ap given_by_all happens
+    go (strays source at p is none happens word) = ap given_by_all happens
+    go (awaits source at p is some happens word) = ap given_by_all happens
     go (learns text n a names is learned_so happens word) = ap given_by_all happens
     go (forgets text n a names is forgotten_so happens word) = ap given_by_all happens
     go (hands source at l e is found carried waits happens word) = ap given_by_all happens
@@ -48,7 +51,7 @@ pub deed_gives : (s : DomainState) (d : Deed) → MayDo s d → given_by_all (ha
 deed_gives s (looks_back q n) may = omega arith
 deed_gives s (puts_owed q frame) may = omega arith
 deed_gives s (looks_ahead q n) may = omega arith
-deed_gives s (takes q name frame word) may = omega (arith, frame_gives s q name (reading frame))
+deed_gives s (takes q name frame word) may = omega (arith, frame_gives s q (came_from s q name frame) (said_from s q frame))
 deed_gives s (calls node call a) may = call_given s node call a may
 
 -- ---- a run

@@ -1,27 +1,33 @@
 -- What the lines of a journal tell of the messages that its frames bring, and of those that it drops, deed by deed.
 use Rattle.std.proofs.Common.{◌≡◌, ℕ, ◌+◌, ◌-◌, Bool, true, false, ◌&&◌, cond, List, [], ◌∷◌, ◌++◌, map, filter, length, Option, Some, None, refl, sym, ap, ◌∙◌, subst, arith, sum_by}
-use Rattle.std.specs.Prelude.{count_by, slice_get, ◌==◌}
+use Rattle.std.specs.Prelude.{count_by, slice_get, is_none, ◌==◌}
 use Rattle.std.specs.List.{AllByRecursion, flat_map}
 use Rattle.std.proofs.lemmas.List.{length-map}
 use Rattle.std.proofs.lemmas.List.Sums.{sum_by-cons}
-use Rattle.mc_base.specs.Reading.{reading}
+use Rattle.mc_base.specs.Reading.{Reading, is_faulty, announces, says, brings}
+use Rattle.mc_base.specs.declared.fate.Fate.{Fate}
+use Rattle.mc_base.specs.declared.fate.Fate.TheVariants as fate
+use Rattle.board_model.specs.Parts.{part_of, coming_from, said_from, came_from}
+use Rattle.board_model.specs.Fragments.{KeepsPart}
+use Rattle.board_model.proofs.PartReadings.{is_part, is_open}
+use Rattle.board_model.proofs.LaneTakes.{Brings, part_word, stray_word}
 use Rattle.mc_base.specs.declared.refusal.Refusal.{Refusal}
 use Rattle.board_model.specs.declared.scenario.Call.{Call}
 use Rattle.board_model.specs.declared.scenario.Call.TheVariants.{Create, Delete, Lookup, MsgSend, MsgRecv, MsgRecvI, MsgAvailable, Connect, OpenSend, OpenRecv, PktSend, PktRecv, PktRecvI, Release, SclSend, SclRecv, CloseSend, CloseRecv, Test, Wait, WaitAny, Cancel, Raw, Turn}
 use Rattle.board_model.specs.declared.scenario.CallLine.{CallLine}
 use Rattle.board_model.specs.Journal.{PlainEntry, turned, put, again, waits, called, PlainAnswer, refuses, agrees, tells, connects, gives, completes, Visit, Taken, Line, turn_line, back_line, put_line, see_line, call_line, taken_line, looked, visit_lines, joined}
-use Rattle.board_model.specs.State.{Item, DomainState, Endpoint, is_at, live_at, endpoint_at, queue_in, queue_at}
+use Rattle.board_model.specs.State.{Item, DomainState, Endpoint, Part, is_at, live_at, endpoint_at, queue_in, queue_at}
 use Rattle.board_model.specs.Labels.{Labels, call_of}
 use Rattle.mc_base.specs.declared.name.Local.{Local}
 use Rattle.board_model.specs.DomainCall.{DomainCall, create_at, delete_at, lookup_of, send_from, receive_at, request_at, available_at, connect_from, open_at, packet_from, lend_at, packet_request_at, release_of, scalar_from, scalar_at, close_at, test_of, wait_for, cancel_of, raw_to, turn_alone}
 use Rattle.board_model.specs.Answer.{local, has_channel, holds, words_of, refusal, answer_by}
 use Rattle.board_model.specs.Step.{RunState, Allowed, next_line, call_at, after}
 use Rattle.board_model.specs.CallChanges.{at_live}
-use Rattle.board_model.specs.Deeds.{Deed, looks_back, puts_owed, looks_ahead, takes, calls, after_deed, MayDo, AllMayDo, along}
+use Rattle.board_model.specs.Deeds.{Deed, looks_back, puts_owed, looks_ahead, takes, calls, after_deed, MayDo, AllMayDo, EachDeed, along}
 use Rattle.board_model.specs.Turn.{takes_named}
 use Rattle.board_model.specs.JournalDeeds.{names_from, named_deeds, call_deeds, entry_deeds, deeds_along}
 use Rattle.board_model.specs.Traffic.{taken_from}
-use Rattle.board_model.specs.Messages.{Message, said_by, carries_message, message_of, is_message_item, queued_at}
+use Rattle.board_model.specs.Messages.{said_by, carries_message, message_of, is_message_item, queued_at}
 use Rattle.board_model.specs.Drops.{drops, dropped_by}
 use Rattle.board_model.specs.Tallies.{is_brought_line, is_lost_line, is_delete, deletes_line, number_told, deleted_in}
 use Rattle.board_model.proofs.ListsCounts.{one_if, count-cons, count-append, count-every}
@@ -35,7 +41,7 @@ use Rattle.board_model.proofs.MessageLists.{get-position}
 use Rattle.board_model.proofs.MessageOnce.{total, total-append}
 use Rattle.board_model.proofs.MessageVisitLines.{count-never, visit_lines_count}
 use Rattle.board_model.proofs.KeptDeeds.{brought_by}
-use Rattle.board_model.proofs.KeptLines.{any, said_bytes}
+use Rattle.board_model.proofs.KeptLines.{any, IsHeld, said_bytes}
 use Rattle.board_model.proofs.RunDeeds.{AllAllowed}
 
 -- ---- by deeds
@@ -44,25 +50,65 @@ abbrev pub brought_deed : Deed → ℕ
 brought_deed (takes q name frame word) = one_if (carries_message frame)
 brought_deed other = 0
 
-deed_brought : (r : ℕ) (s : DomainState) (d : Deed) → count_by any (brought_by r s d) ≡ brought_deed d
-deed_brought r s (takes q name frame word) = said_bytes q r frame
-deed_brought r s (looks_back q n) = refl
-deed_brought r s (puts_owed q f) = refl
-deed_brought r s (looks_ahead q n) = refl
-deed_brought r s (calls node call a) = refl
+-- a frame that is taken is not stray
+abbrev pub NotStray : Deed → Type 0
+NotStray (takes q name frame word) = word ≡ fate.Stray → ⊥
+NotStray other = Unit {0}
 
-pub brought-deeds : (r : ℕ) (s : DomainState) (ds : List Deed) → count_by any (along (brought_by r) s ds) ≡ total brought_deed ds
-brought-deeds r s [] = refl
-brought-deeds r s (d ∷ ds) = omega (arith, count-append any (brought_by r s d) (along (brought_by r) (after_deed s d) ds), deed_brought r s d, brought-deeds r (after_deed s d) ds)
+brings_it : (r : Reading) → is_part r ≡ true → Brings r
+brings_it (brings a b q) e = (a, b, q, refl)
+brings_it (is_faulty f) e = absurd cc
+brings_it (announces text address there) e = absurd cc
+brings_it (says a b l) e = absurd cc
+
+not_stray : (s : DomainState) (q : ℕ) (name : Option ℕ) (frame : List ℕ) (word : Fate) → MayDo s (takes q name frame word) → NotStray (takes q name frame word) → IsHeld (coming_from s q frame)
+not_stray s q name frame word may never part = go (coming_from s q frame).part refl
+  where
+    go : (o : Option Part) → (coming_from s q frame).part ≡ o → is_open o ≡ true
+    go (Some p) is = refl
+    go None is = absurd (never (sym may ∙ stray_word s q (came_from s q name frame) (said_from s q frame) (ap is_none is) (brings_it (said_from s q frame) part)))
+
+deed_brought : (r : ℕ) (s : DomainState) (d : Deed) → MayDo s d → NotStray d → count_by any (brought_by r s d) ≡ brought_deed d
+deed_brought r s (takes q name frame word) may never = said_bytes q r (part_of s q) frame (not_stray s q name frame word may never)
+deed_brought r s (looks_back q n) may never = refl
+deed_brought r s (puts_owed q f) may never = refl
+deed_brought r s (looks_ahead q n) may never = refl
+deed_brought r s (calls node call a) may never = refl
+
+pub brought-deeds : (r : ℕ) (s : DomainState) (ds : List Deed) → AllMayDo s ds → AllByRecursion NotStray ds → count_by any (along (brought_by r) s ds) ≡ total brought_deed ds
+brought-deeds r s [] may never = refl
+brought-deeds r s (d ∷ ds) may never = omega (arith, count-append any (brought_by r s d) (along (brought_by r) (after_deed s d) ds), deed_brought r s d may.0 never.0, brought-deeds r (after_deed s d) ds may.1 never.1)
+
+pub never-stray : (start : DomainState) (before ds : List Deed) → EachDeed (KeepsPart start) before ds → AllByRecursion NotStray ds
+never-stray start before [] keeps = tt
+never-stray start before (d ∷ ds) keeps = (one d keeps.0, never-stray start (before ++ d ∷ []) ds keeps.1)
+  where
+    one : (e : Deed) → KeepsPart start before e → NotStray e
+    one (takes q name frame word) k = k.0
+    one (looks_back q n) k = tt
+    one (puts_owed q f) k = tt
+    one (looks_ahead q n) k = tt
+    one (calls node call a) k = tt
 
 abbrev pub lost_deed : Deed → ℕ
 lost_deed (takes q name frame word) = one_if (drops word && carries_message frame)
 lost_deed (calls node (delete_at port) (tells n)) = n
 lost_deed other = 0
 
-lost_if : (b c : Bool) (ms : List Message) → count_by any ms ≡ one_if c → count_by any (cond b ms []) ≡ one_if (b && c)
-lost_if true c ms is = is
-lost_if false c ms is = refl
+-- a frame with a word that drops brings no part
+frame_lost : (d : ℕ) (s : DomainState) (q : ℕ) (name : Option ℕ) (frame : List ℕ) (word : Fate) → MayDo s (takes q name frame word) → count_by any (dropped_by d s (takes q name frame word)) ≡ lost_deed (takes q name frame word)
+frame_lost d s q name frame word may = go (drops word) refl
+  where
+    whole : drops word ≡ true → IsHeld (coming_from s q frame)
+    whole dropped part = by_part (is_none (coming_from s q frame).part) refl
+      where
+        by_part : (b : Bool) → is_none (coming_from s q frame).part ≡ b → is_open (coming_from s q frame).part ≡ true
+        by_part true is = let clash : true ≡ false = sym dropped ∙ ap drops (sym may ∙ stray_word s q (came_from s q name frame) (said_from s q frame) is (brings_it (said_from s q frame) part)) in absurd cc
+        by_part false is = let clash : true ≡ false = sym dropped ∙ ap drops (sym may ∙ part_word s q (came_from s q name frame) (said_from s q frame) is (brings_it (said_from s q frame) part)) in absurd cc
+
+    go : (b : Bool) → drops word ≡ b → count_by any (cond b (said_by q d (said_from s q frame)) []) ≡ one_if (b && carries_message frame)
+    go true dropped = said_bytes q d (part_of s q) frame (whole dropped)
+    go false dropped = refl
 
 -- what is queued at an endpoint without a channel
 deleted_length : (d : ℕ) (s : DomainState) → Queues s → (at : Local) (x : Option Endpoint) → live_at s at ≡ x → has_channel x ≡ false → count_by any (at_live x (queued_at d)) ≡ length (queue_in x)
@@ -107,7 +153,7 @@ call_lost d s node (raw_to to bytes) a order may = refl
 call_lost d s node turn_alone a order may = refl
 
 deed_lost : (d : ℕ) (s : DomainState) (e : Deed) → Queues s → MayDo s e → count_by any (dropped_by d s e) ≡ lost_deed e
-deed_lost d s (takes q name frame word) order may = lost_if (drops word) (carries_message frame) (said_by q d (reading frame)) (said_bytes q d frame)
+deed_lost d s (takes q name frame word) order may = frame_lost d s q name frame word may
 deed_lost d s (calls node call a) order may = call_lost d s node call a order may
 deed_lost d s (looks_back q n) order may = refl
 deed_lost d s (puts_owed q f) order may = refl

@@ -5,7 +5,7 @@ use Rattle.std.specs.List.{AllByRecursion}
 use Rattle.std.proofs.lemmas.Bool.{cond_both}
 use Rattle.std.proofs.lemmas.Bool.Decides.{eqb_tells}
 use Rattle.board_model.specs.State.{DomainState, Announcement, Peer, is_numbered, peer_at, peer_of, free_to}
-use Rattle.board_model.specs.Change.{Change, end_announced, reply_owed, owed_put, buffers_back, frames_shown, frame_taken, names_known, buffer_used, also_owed, first_put, changed, changed_all}
+use Rattle.board_model.specs.Change.{Change, end_announced, reply_owed, owed_put, buffers_back, frames_shown, frame_taken, names_known, buffers_used, also_owed, first_put, changed, changed_all}
 use Rattle.board_model.proofs.MessageLists.{changed_first, get-position}
 use Rattle.board_model.proofs.ListsMapped.{find-mapped}
 
@@ -51,9 +51,9 @@ peer_after d (reply_owed m r) n p = cond (m == n) (record p { replies = p.replie
 peer_after d (owed_put m) n p = cond (m == n) (first_put p) p
 peer_after d (buffers_back m count) n p = cond (m == n) (record p { free = p.free + count }) p
 peer_after d (frames_shown m count) n p = cond (m == n) (record p { shown = count }) p
-peer_after d (frame_taken m) n p = cond (m == n) (record p { shown = p.shown - 1 }) p
+peer_after d (frame_taken m part names) n p = cond (m == n) (record p { shown = p.shown - 1; part = part }) p
 peer_after d (names_known m names) n p = cond (m == n) (record p { known = names }) p
-peer_after d (buffer_used m) n p = cond (m == n) (record p { free = p.free - 1 }) p
+peer_after d (buffers_used m count) n p = cond (m == n) (record p { free = p.free - count }) p
 peer_after d other n p = p
 
 found_first : (f : Peer → Peer) → ((p : Peer) → (f p).number ≡ p.number) → (m n : ℕ) (ps : List Peer) → find (is_numbered n) (changed_first (is_numbered m) f ps) ≡ option_map (λ p. cond (m == n) (f p) p) (find (is_numbered n) ps)
@@ -85,9 +85,9 @@ peer-changed s (reply_owed m r) n = found_first (λ p. record p { replies = p.re
 peer-changed s (owed_put m) n = found_first first_put first-number m n s.peers
 peer-changed s (buffers_back m count) n = found_first (λ p. record p { free = p.free + count }) (λ p. refl) m n s.peers
 peer-changed s (frames_shown m count) n = found_first (λ p. record p { shown = count }) (λ p. refl) m n s.peers
-peer-changed s (frame_taken m) n = found_first (λ p. record p { shown = p.shown - 1 }) (λ p. refl) m n s.peers
+peer-changed s (frame_taken m part names) n = found_first (λ p. record p { shown = p.shown - 1; part = part }) (λ p. refl) m n s.peers
 peer-changed s (names_known m names) n = found_first (λ p. record p { known = names }) (λ p. refl) m n s.peers
-peer-changed s (buffer_used m) n = found_first (λ p. record p { free = p.free - 1 }) (λ p. refl) m n s.peers
+peer-changed s (buffers_used m count) n = found_first (λ p. record p { free = p.free - count }) (λ p. refl) m n s.peers
 peer-changed s other n = sym (option_map-same (peer_at s n))
   where
     option_map-same : (o : Option Peer) → option_map (λ p. p) o ≡ o
@@ -126,9 +126,9 @@ size-keeps d n (reply_owed m r) p = cond-keeps (λ q. q.size) (m == n) p (record
 size-keeps d n (owed_put m) p = cond-keeps (λ q. q.size) (m == n) p (first_put p) (cond_both (length p.announcements == 0) (record p { free = p.free - 1; replies = drop 1 p.replies }) (record p { free = p.free - 1; announcements = drop 1 p.announcements }) (λ q. q.size ≡ p.size) (λ e. refl) (λ e. refl))
 size-keeps d n (buffers_back m count) p = cond-keeps (λ q. q.size) (m == n) p (record p { free = p.free + count }) refl
 size-keeps d n (frames_shown m count) p = cond-keeps (λ q. q.size) (m == n) p (record p { shown = count }) refl
-size-keeps d n (frame_taken m) p = cond-keeps (λ q. q.size) (m == n) p (record p { shown = p.shown - 1 }) refl
+size-keeps d n (frame_taken m part names) p = cond-keeps (λ q. q.size) (m == n) p (record p { shown = p.shown - 1; part = part }) refl
 size-keeps d n (names_known m names) p = cond-keeps (λ q. q.size) (m == n) p (record p { known = names }) refl
-size-keeps d n (buffer_used m) p = cond-keeps (λ q. q.size) (m == n) p (record p { free = p.free - 1 }) refl
+size-keeps d n (buffers_used m count) p = cond-keeps (λ q. q.size) (m == n) p (record p { free = p.free - count }) refl
 size-keeps d n other p = refl
 
 pub size-all : (s : DomainState) (cs : List Change) (n : ℕ) → read_of (λ p. p.size) (changed_all s cs) n ≡ read_of (λ p. p.size) s n

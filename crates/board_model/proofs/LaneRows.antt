@@ -1,12 +1,14 @@
 -- What a domain does with a frame: what its row does, by what the frame says.
+use Rattle.mc_base.specs.declared.fate.Fate.{Fate}
+use Rattle.board_model.specs.Parts.{Came}
 use Rattle.std.proofs.Common.{◌≡◌, ℕ, Bool, true, false, not, ◌&&◌, cond, List, [], ◌∷◌, Option, Some, None, refl, sym, ap, ap₂, ◌∙◌}
-use Rattle.std.specs.Prelude.{is_some, option_to_list}
+use Rattle.std.specs.Prelude.{is_some, is_none}
 use Rattle.std.specs.List.{AllByRecursion}
 use Rattle.std.proofs.lemmas.Bool.{and_parts}
 use Rattle.mc_base.specs.FullName.{endpoint_named}
 use Rattle.mc_base.specs.NameMap.{Names, learned, forgotten}
-use Rattle.mc_base.specs.Letter.{PlainLetter, msg, connect, accept, reject, recv_open, send_open, packet, scalar, send_close, recv_close}
-use Rattle.mc_base.specs.Reading.{Reading, is_faulty, announces, says}
+use Rattle.mc_base.specs.Letter.{PlainLetter, msg, connect, accept, reject, recv_open, send_open, packet, scalar, send_close, recv_close, Piece}
+use Rattle.mc_base.specs.Reading.{Reading, is_faulty, announces, says, brings}
 use Rattle.mc_base.specs.declared.fault.Fault.{Fault}
 use Rattle.mc_base.specs.declared.fault.Fault.TheVariants as of
 use Rattle.mc_base.specs.declared.fault.FrameFault.{FrameFault}
@@ -22,7 +24,7 @@ use Rattle.mc_base.specs.declared.channel.Kind.TheVariants as kind
 use Rattle.mc_base.specs.declared.channel.Reason.{Reason}
 use Rattle.mc_base.specs.declared.channel.Reason.TheVariants as reason
 use Rattle.mc_base.specs.declared.refusal.Refusal.TheVariants.{ChanClosed}
-use Rattle.board_model.specs.State.{connected, ChannelEnd, is_accepted, is_rejected, Endpoint, DomainState, endpoint_of, one_waits, peer_at}
+use Rattle.board_model.specs.State.{connected, ChannelEnd, is_accepted, is_rejected, Endpoint, DomainState, endpoint_of, one_waits, peer_at, Item}
 use Rattle.board_model.specs.Change.{Change, channel_set, item_queued, item_handed, item_lost, waiting_ended, name_found, connect_settled, names_known}
 use Rattle.board_model.specs.ChannelEnds.{is_connecting, is_closed, same_kind, sends_to, hears_from, far_closed_end, end_row, left_row, end_row_of}
 use Rattle.board_model.specs.Dealing.{fault_word, frame_word, letter_word, ns_word, keeps_buffer}
@@ -85,10 +87,12 @@ Late peer e (packet number content) = (c : ChannelEnd) × (e.channel ≡ Some c)
 Late peer e (scalar number bits value) = (c : ChannelEnd) × (e.channel ≡ Some c) × (end_row_of peer (Some c) (scalar number bits value) ≡ end_row true fate.Closed (Some c))
 Late peer e other = ⊥
 
--- nothing; it learns a name, or forgets one; it hands an item to a receive that waits, or queues it, or loses it; it owes a rejection, or
+-- nothing; it is stray, or held in a part; it learns a name, or forgets one; it hands an item to a receive that waits, or queues it, or loses it; it owes a rejection, or
 -- accepts a channel; or a letter acts on a channel
-pub data Deals (s : DomainState) (peer : ℕ) (name : Option ℕ) (frame : Reading) (r : Row) : Type 0 where
+pub data Deals (s : DomainState) (peer : ℕ) (name : Came) (frame : Reading) (r : Row) : Type 0 where
   stays : r.happens ≡ [] → keeps_buffer r.word ≡ false → Deals s peer name frame r
+  strays : (source at : ℕ) (q : Piece) → frame ≡ brings source at q → is_none name.part ≡ true → r.happens ≡ [] → r.word ≡ fate.Stray → Deals s peer name frame r
+  awaits : (source at : ℕ) (q : Piece) → frame ≡ brings source at q → is_none name.part ≡ false → r.happens ≡ [] → r.word ≡ fate.Part → Deals s peer name frame r
   learns : (text : List ℕ) (n : EndName) (a : ℕ) (names : Names) → frame ≡ announces text a true → names ≡ learned n a (names_of (peer_at s peer)) → r.happens ≡ names_known peer names ∷ name_found n a ∷ [] → keeps_buffer r.word ≡ false → Deals s peer name frame r
   forgets : (text : List ℕ) (n : EndName) (a : ℕ) (names : Names) → frame ≡ announces text a false → names ≡ forgotten n (names_of (peer_at s peer)) → r.happens ≡ names_known peer names ∷ [] → keeps_buffer r.word ≡ false → Deals s peer name frame r
   hands : (source at : ℕ) (l : PlainLetter) (e : Endpoint) → frame ≡ says source at l → endpoint_of s at ≡ Some e → Carried peer e l → one_waits s e.local ≡ true → r.happens ≡ item_handed at (item_of peer name source l) ∷ [] → r.word ≡ fate.Handed → Deals s peer name frame r
@@ -99,13 +103,13 @@ pub data Deals (s : DomainState) (peer : ℕ) (name : Option ℕ) (frame : Readi
   acts : (source at : ℕ) (l : PlainLetter) (e : Endpoint) (c : ChannelEnd) (left : Option ChannelEnd) → frame ≡ says source at l → endpoint_of s at ≡ Some e → e.channel ≡ Some c → end_row_of peer (Some c) l ≡ end_row true fate.Acted left → r.happens ≡ acting at left l → keeps_buffer r.word ≡ false → Deals s peer name frame r
 
 -- what each item says, whatever the letter
-pub item-peer : (peer : ℕ) (name : Option ℕ) (source : ℕ) (l : PlainLetter) → (item_of peer name source l).peer ≡ peer
+pub item-peer : (peer : ℕ) (name : Came) (source : ℕ) (l : PlainLetter) → (item_of peer name source l).peer ≡ peer
 item-peer peer name source (msg priority content) = refl
 item-peer peer name source (packet number content) = refl
 item-peer peer name source (scalar number bits value) = refl
 item-peer peer name source other = refl
 
-pub item-frames : (peer : ℕ) (name : Option ℕ) (source : ℕ) (l : PlainLetter) → (item_of peer name source l).frames ≡ option_to_list name
+pub item-frames : (peer : ℕ) (name : Came) (source : ℕ) (l : PlainLetter) → (item_of peer name source l).frames ≡ name.names
 item-frames peer name source (msg priority content) = refl
 item-frames peer name source (packet number content) = refl
 item-frames peer name source (scalar number bits value) = refl
@@ -118,7 +122,7 @@ acting-all P at left sets accepted rejected ends (reject number why) = (sets, (r
 acting-all P at left sets accepted rejected ends (send_close number) = (ends, (sets, tt))
 acting-all P at left sets accepted rejected ends other = (sets, tt)
 
-module _ (s : DomainState) (peer : ℕ) (name : Option ℕ) where
+module _ (s : DomainState) (peer : ℕ) (name : Came) where
   names_deal : (text : List ℕ) (o : Option EndName) (address : ℕ) (there : Bool) → Deals s peer name (announces text address there) (first_row (name_rows peer (names_of (peer_at s peer)) o address there))
   names_deal text None address there = stays refl refl
   names_deal text (Some n) address true =
@@ -206,4 +210,89 @@ module _ (s : DomainState) (peer : ℕ) (name : Option ℕ) where
   pub row-deals : (frame : Reading) → Deals s peer name frame (row_of s peer name frame)
   row-deals (is_faulty f) = stays refl (fault_word_gives f)
   row-deals (announces text address there) = names_deal text (endpoint_named text) address there
+  row-deals (brings source destination q) =
+      by_rows (Deals s peer name (brings source destination q)) (row (is_none name.part) fate.Stray [] ∷ last_row fate.Part [])
+      ((λ none. strays source destination q refl none refl refl), (λ some. awaits source destination q refl some refl refl))
   row-deals (says source destination l) = letters_deal source destination (endpoint_of s destination) l refl
+
+-- what holds of no change holds of what a part does
+pub by_part : (P : List Change → Type 0) (s : DomainState) (peer : ℕ) (name : Came) (source destination : ℕ) (q : Piece) → P [] → P (row_of s peer name (brings source destination q)).happens
+by_part P s peer name source destination q none = by_rows (λ r. P r.happens) (row (is_none name.part) fate.Stray [] ∷ last_row fate.Part []) ((λ on. none), (λ off. none))
+
+abbrev pub is_brought : Reading → Bool
+is_brought (brings source destination q) = true
+is_brought other = false
+
+-- ---- no word but that of a part without an open one is stray
+
+abbrev pub is_stray : Fate → Bool
+is_stray fate.Stray = true
+is_stray other = false
+
+abbrev Calm : Row → Type 0
+Calm r = is_stray r.word ≡ false
+
+frame_calm : (f : FrameFault) → is_stray (frame_word f) ≡ false
+frame_calm frame_fault.FrameShort = refl
+frame_calm frame_fault.FrameLong = refl
+frame_calm frame_fault.HeaderLen = refl
+
+letter_calm : (f : LetterFault) → is_stray (letter_word f) ≡ false
+letter_calm letter_fault.PayloadShort = refl
+letter_calm letter_fault.Magic = refl
+letter_calm letter_fault.Version = refl
+letter_calm letter_fault.Kind = refl
+letter_calm letter_fault.Argument = refl
+letter_calm letter_fault.Channel = refl
+letter_calm letter_fault.Size = refl
+
+ns_calm : (f : NsFault) → is_stray (ns_word f) ≡ false
+ns_calm ns_fault.NsSize = refl
+ns_calm ns_fault.NsFlags = refl
+ns_calm ns_fault.NsName = refl
+
+fault_calm : (f : Fault) → is_stray (fault_word f) ≡ false
+fault_calm (of.Frame f) = frame_calm f
+fault_calm (of.Letter f) = letter_calm f
+fault_calm (of.Ns f) = ns_calm f
+
+module _ (s : DomainState) (peer : ℕ) where
+  names_calm : (o : Option EndName) (address : ℕ) (there : Bool) → Calm (first_row (name_rows peer (names_of (peer_at s peer)) o address there))
+  names_calm None address there = refl
+  names_calm (Some n) address true = by_rows Calm (name_rows peer (names_of (peer_at s peer)) (Some n) address true) ((λ on. refl), (λ off. ((λ on. refl), (λ last. refl))))
+  names_calm (Some n) address false = by_rows Calm (name_rows peer (names_of (peer_at s peer)) (Some n) address false) ((λ on. refl), (λ off. ((λ on. refl), (λ last. refl))))
+
+  module _ (source destination : ℕ) where
+    connects_calm : (o : Option Endpoint) (number : ℕ) (kind : Kind) → Calm (first_row (connect_rows s peer source destination o number kind))
+    connects_calm None number kind = by_rows Calm (connect_rows s peer source destination None number kind) ((λ on. refl), (λ off. refl))
+    connects_calm (Some e) number kind = by_rows Calm (connect_rows s peer source destination (Some e) number kind) ((λ on. refl), (λ off. ((λ on. refl), (λ off. ((λ on. refl), (λ off. refl))))))
+
+    messages_calm : (e : Endpoint) (c : Option ChannelEnd) (i : Item) → Calm (first_row (message_rows s destination e c i))
+    messages_calm e (Some c) i = refl
+    messages_calm e None i = by_rows Calm (message_rows s destination e None i) ((λ on. refl), (λ off. refl))
+
+    channels_calm : (e : Endpoint) (c : Option ChannelEnd) (i : Item) (l : PlainLetter) → Calm (first_row (channel_rows s peer destination e c i l))
+    channels_calm e None i l = refl
+    channels_calm e (Some c) i (msg priority content) = refl
+    channels_calm e (Some c) i (connect number kind) = refl
+    channels_calm e (Some c) i (packet number content) = by_rows Calm (channel_rows s peer destination e (Some c) i (packet number content)) ((λ on. refl), (λ off. ((λ on. refl), (λ off. ((λ on. refl), (λ off. refl))))))
+    channels_calm e (Some c) i (scalar number bits value) = by_rows Calm (channel_rows s peer destination e (Some c) i (scalar number bits value)) ((λ on. refl), (λ off. ((λ on. refl), (λ off. ((λ on. refl), (λ off. refl))))))
+    channels_calm e (Some c) i (accept number) = by_rows Calm (channel_rows s peer destination e (Some c) i (accept number)) ((λ on. refl), (λ off. refl))
+    channels_calm e (Some c) i (reject number why) = by_rows Calm (channel_rows s peer destination e (Some c) i (reject number why)) ((λ on. refl), (λ off. refl))
+    channels_calm e (Some c) i (recv_open number) = by_rows Calm (channel_rows s peer destination e (Some c) i (recv_open number)) ((λ on. refl), (λ off. refl))
+    channels_calm e (Some c) i (recv_close number) = by_rows Calm (channel_rows s peer destination e (Some c) i (recv_close number)) ((λ on. refl), (λ off. refl))
+    channels_calm e (Some c) i (send_open number) = by_rows Calm (channel_rows s peer destination e (Some c) i (send_open number)) ((λ on. refl), (λ off. refl))
+    channels_calm e (Some c) i (send_close number) = by_rows Calm (channel_rows s peer destination e (Some c) i (send_close number)) ((λ on. refl), (λ off. refl))
+
+    letters_calm : (name : Came) (o : Option Endpoint) (l : PlainLetter) → Calm (first_row (letter_rows s peer name source destination o l))
+    letters_calm name o (connect number kind) = connects_calm o number kind
+    letters_calm name None l = refl
+    letters_calm name (Some e) (msg priority content) = messages_calm e e.channel _
+    letters_calm name (Some e) l = channels_calm e e.channel _ l
+
+  -- where a part is open after the frame, or the frame brings none, its word is not stray
+  pub row-calm : (name : Came) (r : Reading) → (is_brought r ≡ true → is_none name.part ≡ false) → Calm (row_of s peer name r)
+  row-calm name (is_faulty f) open_so = fault_calm f
+  row-calm name (announces text address there) open_so = names_calm (endpoint_named text) address there
+  row-calm name (says source destination l) open_so = letters_calm source destination name (endpoint_of s destination) l
+  row-calm name (brings source destination q) open_so = ap (λ b. is_stray (cond b (row b fate.Stray []) (row true fate.Part [])).word) (open_so refl)

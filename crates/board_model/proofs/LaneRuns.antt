@@ -1,6 +1,6 @@
 -- Runs of a domain, at any peer: the free buffers of the lane to it by what was put and came back, and the items that are held
 -- from it by what was taken and given back.
-use Rattle.std.proofs.Common.{◌≡◌, ℕ, ◌+◌, ◌≤◌, min, Bool, true, false, not, cond, List, [], ◌∷◌, ◌++◌, length, map, sum, Option, Some, None, is_some, count_by, flat_map, option_map, refl, sym, ap, ◌∙◌, subst, inl, inr, arith, length-append, length-take, eq-eqb}
+use Rattle.std.proofs.Common.{◌≡◌, ℕ, ◌+◌, ◌≤◌, min, Bool, true, false, cond, List, [], ◌∷◌, ◌++◌, length, map, sum, Option, Some, None, is_some, count_by, flat_map, option_map, refl, sym, ap, ◌∙◌, subst, inl, inr, arith, length-append, length-take, eq-eqb}
 use Rattle.std.specs.Prelude.{◌==◌, unwrap_or}
 use Rattle.std.proofs.lemmas.Bool.{ne_eqb}
 use Rattle.std.proofs.lemmas.Bool.Decides.{eqb_tells}
@@ -8,10 +8,12 @@ use Rattle.std.proofs.lemmas.List.Sums.{sum_by-append, sum_by-cons}
 use Rattle.board_model.proofs.WaitCalls.{wait-puts}
 use Rattle.board_model.specs.Answer.{puts}
 use Rattle.board_model.specs.declared.scenario.CallLine.{CallLine}
-use Rattle.board_model.specs.Journal.{PlainEntry, turned, put, again, waits, called, Visit, Taken}
-use Rattle.board_model.specs.State.{DomainState, Peer, peer_at, peer_of, free_to, is_from, held_from, owed_to}
-use Rattle.board_model.specs.Dealing.{keeps_buffer}
-use Rattle.board_model.specs.Turn.{turn_limit, nameless, visit_deeds, after_visit, IsVisit, AreVisits, after_turn}
+use Rattle.board_model.specs.Journal.{PlainEntry, turned, put, again, waits, called, Visit}
+use Rattle.board_model.specs.State.{DomainState, Peer, peer_at, peer_of, free_to, frames_from, held_from, owed_to}
+use Rattle.board_model.specs.Deeds.{looks_back, puts_owed, looks_ahead, after_deed, along}
+use Rattle.board_model.specs.Returns.{names_given}
+use Rattle.board_model.specs.Serial.{looks_deeds}
+use Rattle.board_model.specs.Turn.{turn_limit, nameless, takes_named, visit_deeds, after_visit, IsVisit, AreVisits, after_turn}
 use Rattle.board_model.specs.DomainCall.{DomainCall}
 use Rattle.board_model.specs.CallChanges.{effect, returned}
 use Rattle.board_model.specs.Step.{RunState, HasNoPuts, next_line, call_at, Allowed, effect_of_line, after, limit_of, MayCome}
@@ -19,11 +21,10 @@ use Rattle.board_model.specs.Traffic.{visits_to, puts_in, takes_in, put_to, take
 use Rattle.board_model.specs.Run.{Leads}
 use Rattle.board_model.proofs.ListsCounts.{one_if, count-cons, count-append}
 use Rattle.board_model.proofs.StateEnds.{Ends}
-use Rattle.board_model.proofs.DeedJoins.{call-ends, deeds-ends}
+use Rattle.board_model.proofs.DeedJoins.{call-ends, deeds-ends, along-join}
 use Rattle.board_model.proofs.LanePeers.{peer_found, free-at}
-use Rattle.board_model.proofs.VisitLooks.{after_looks, after_takes, HaveWords, visit-after, visit-words, looks-keep, looked, looked-free, looks-peer}
-use Rattle.board_model.proofs.LaneRows.{item-peer}
-use Rattle.board_model.proofs.LaneTakes.{takes_count, takes_none, takes-free}
+use Rattle.board_model.proofs.VisitLooks.{after_looks, after_takes, HaveWords, visit-after, visit-split, visit-words, looks-keep, looked, looked-free, looks-peer}
+use Rattle.board_model.proofs.LaneTakes.{weight, held-by-weight, weighed-is, calls-held, takes_count, takes-free}
 use Rattle.board_model.proofs.LaneCalls.{call_counts}
 use Rattle.board_model.proofs.LaneSends.{goes_to, call_frees}
 
@@ -69,22 +70,34 @@ visit_other n s v differ = visit_free n s v false (ne_eqb v.peer n differ) ∙ (
 pub looks_hold : (n : ℕ) (s : DomainState) (v : Visit) → held_from n (after_looks s v) ≡ held_from n s
 looks_hold n s v = looks-keep (held_from n) (λ t p k. refl) (λ t p. refl) (λ t p k. refl) s v
 
-visit_holds : (n : ℕ) (s : DomainState) (v : Visit) → v.peer ≡ n → HaveWords (after_looks s v) v.peer v.takes → held_from n (after_visit s v) + count_by (λ t. not (keeps_buffer t.fate)) v.takes ≡ held_from n s + length v.takes
-visit_holds n s v same words =
-    omega (arith, ap (held_from n) (visit-after s v), takes_count (is_from n) (after_looks s v) v.peer (λ source l. ap (λ k. k == n) (item-peer v.peer None source l) ∙ eq-eqb v.peer n same) v.takes words, looks_hold n s v)
+-- looks and owed frames give nothing back
+looks_give : (n : ℕ) (s : DomainState) (v : Visit) → along (names_given n) s (looks_deeds v.peer v.back v.owed v.see) ≡ []
+looks_give n s v =
+    let t : DomainState = after_deed s (looks_back v.peer v.back) in
+    along-join (names_given n) t (map (puts_owed v.peer) v.owed) (looks_ahead v.peer v.see ∷ [])
+    ∙ ap (λ xs. xs ++ []) (puts_give v.owed t)
+  where
+    puts_give : (fs : List (List ℕ)) (t : DomainState) → along (names_given n) t (map (puts_owed v.peer) fs) ≡ []
+    puts_give [] t = refl
+    puts_give (f ∷ fs) t = puts_give fs (after_deed t (puts_owed v.peer f))
 
-visit_holds_other : (n : ℕ) (s : DomainState) (v : Visit) → (v.peer == n) ≡ false → HaveWords (after_looks s v) v.peer v.takes → held_from n (after_visit s v) ≡ held_from n s
-visit_holds_other n s v differ words = ap (held_from n) (visit-after s v) ∙ (takes_none (is_from n) (after_looks s v) v.peer (λ source l. ap (λ k. k == n) (item-peer v.peer None source l) ∙ differ) v.takes words ∙ looks_hold n s v)
+-- what a visit gives back to a peer
+pub visit-gives : (n : ℕ) (s : DomainState) (v : Visit) → along (names_given n) s (visit_deeds nameless v) ≡ along (names_given n) (after_looks s v) (takes_named nameless v.peer v.takes)
+visit-gives n s v =
+    ap (along (names_given n) s) (visit-split nameless v)
+    ∙ (along-join (names_given n) s (looks_deeds v.peer v.back v.owed v.see) (takes_named nameless v.peer v.takes)
+    ∙ ap (λ xs. xs ++ along (names_given n) (after_looks s v) (takes_named nameless v.peer v.takes)) (looks_give n s v))
+
+visit_holds : (n : ℕ) (s : DomainState) (v : Visit) → HaveWords (after_looks s v) v.peer v.takes → held_from n (after_visit s v) + length (along (names_given n) s (visit_deeds nameless v)) ≡ held_from n s + cond (v.peer == n) (length v.takes) 0
+visit_holds n s v words =
+    omega (arith, ap (held_from n) (visit-after s v), takes_count n (after_looks s v) v.peer nameless v.takes words, looks_hold n s v, ap length (visit-gives n s v))
 
 -- ---- a turn
-
-abbrev given_at_once : List Taken → ℕ
-given_at_once ts = count_by (λ t. not (keeps_buffer t.fate)) ts
 
 -- what a turn does at a peer: frames put, buffers back, frames taken and buffers given back
 record TurnSums (n : ℕ) (s : DomainState) (vs : List Visit) (after : DomainState) : Type 0 where
   frees : free_to after n + length (puts_in n (turned vs)) ≡ free_to s n + sum (backs_in n (turned vs))
-  holds : held_from n after + given_at_once (takes_in n (turned vs)) ≡ held_from n s + length (takes_in n (turned vs))
+  holds : held_from n after + length (along (names_given n) s (flat_map (visit_deeds nameless) vs)) ≡ held_from n s + length (takes_in n (turned vs))
 
 module _ (n : ℕ) (v : Visit) (vs : List Visit) where
   own_visits : (v.peer == n) ≡ true → visits_to n (v ∷ vs) ≡ v ∷ visits_to n vs
@@ -93,25 +106,32 @@ module _ (n : ℕ) (v : Visit) (vs : List Visit) where
   other_visits : (v.peer == n) ≡ false → visits_to n (v ∷ vs) ≡ visits_to n vs
   other_visits differ = ap (λ b. cond b (v ∷ visits_to n vs) (visits_to n vs)) differ
 
+pub turn-gives : (n : ℕ) (s : DomainState) (v : Visit) (vs : List Visit) → length (along (names_given n) s (flat_map (visit_deeds nameless) (v ∷ vs))) ≡ length (along (names_given n) s (visit_deeds nameless v)) + length (along (names_given n) (after_visit s v) (flat_map (visit_deeds nameless) vs))
+turn-gives n s v vs =
+    ap length (along-join (names_given n) s (visit_deeds nameless v) (flat_map (visit_deeds nameless) vs))
+    ∙ length-append (along (names_given n) s (visit_deeds nameless v)) (along (names_given n) (after_visit s v) (flat_map (visit_deeds nameless) vs))
+
 turn_sums : (n : ℕ) (s : DomainState) (vs : List Visit) → AreVisits s vs → TurnSums n s vs (after_turn s vs)
 turn_sums n s [] are = record { frees = refl; holds = refl }
 turn_sums n s (v ∷ vs) are = elim (eqb_tells v.peer n) [
   | inl same ↦
       let rest = turn_sums n (after_visit s v) vs are.1 in
+      let given = turn-gives n s v vs in
       let visits = own_visits n v vs same.0 in
       let puts = ap (λ (us : List Visit). length (flat_map (λ x. x.owed) us)) visits in
       let takes = ap (λ (us : List Visit). flat_map (λ x. x.takes) us) visits in
       record {
         frees = omega (arith, rest.frees, visit_frees n s v same.1 are.0, puts, length-append v.owed (puts_in n (turned vs)), ap (λ (us : List Visit). sum (map (λ x. x.back) us)) visits, sum_by-cons (λ (x : ℕ). x) v.back (backs_in n (turned vs)));
-        holds = omega (arith, rest.holds, visit_holds n s v same.1 (visit-words s v are.0.may), ap length takes, ap given_at_once takes, length-append v.takes (takes_in n (turned vs)), count-append (λ (t : Taken). not (keeps_buffer t.fate)) v.takes (takes_in n (turned vs)));
+        holds = omega (arith, rest.holds, visit_holds n s v (visit-words s v are.0.may), ap length takes, given, length-append v.takes (takes_in n (turned vs)), ap (λ b. cond b (length v.takes) 0) same.0);
       }
   | inr differ ↦
       let rest = turn_sums n (after_visit s v) vs are.1 in
+      let given = turn-gives n s v vs in
       let visits = other_visits n v vs differ.0 in
       let takes = ap (λ (us : List Visit). flat_map (λ x. x.takes) us) visits in
       record {
         frees = omega (arith, rest.frees, visit_other n s v differ.1, ap (λ (us : List Visit). length (flat_map (λ x. x.owed) us)) visits, ap (λ (us : List Visit). sum (map (λ x. x.back) us)) visits);
-        holds = omega (arith, rest.holds, visit_holds_other n s v differ.0 (visit-words s v are.0.may), ap length takes, ap given_at_once takes);
+        holds = omega (arith, rest.holds, visit_holds n s v (visit-words s v are.0.may), ap length takes, given, ap (λ b. cond b (length v.takes) 0) differ.0);
       }
 ]
 
@@ -139,8 +159,9 @@ waiting_more : (n : ℕ) (o : Option (List (ℕ × List ℕ))) (to : ℕ) (frame
 waiting_more n None to frame h = absurd cc
 waiting_more n (Some ps) to frame h = omega (arith, count-append (goes_to n) ps ((to, frame) ∷ []), count-cons (goes_to n) (to, frame) [], length-if (to == n) frame)
 
-pub call_holds : (n : ℕ) (s : DomainState) → Ends s → (node : ℕ) (call : DomainCall) → held_from n (effect s node call) + count_by (is_from n) (returned s node call) ≡ held_from n s
-call_holds n s ends node call = call_counts (is_from n) s ends node call
+pub call_holds : (n : ℕ) (s : DomainState) → Ends s → (node : ℕ) (call : DomainCall) → held_from n (effect s node call) + length (frames_from n (returned s node call)) ≡ held_from n s
+call_holds n s ends node call =
+    omega (arith, call_counts (weight n) s ends node call, held-by-weight n (effect s node call), held-by-weight n s, weighed-is n (returned s node call), ap length (calls-held n s node call))
 
 -- ---- a state of a run keeps names and addresses of endpoints apart
 
@@ -184,7 +205,7 @@ sums_after script n size p b t g r (called k a) ends allowed h =
     let here = allowed.1 in
     record {
       frees = omega (arith, h.frees, call_frees r.state n line.node (call_at r line), ap (λ o. free_to (effect_of_line o r) n) here, came_with n line r (limit_of line.call) refl allowed.4);
-      holds = omega (arith, h.holds, call_holds n r.state ends line.node (call_at r line), ap (λ o. held_from n (effect_of_line o r)) here, ap (λ o. count_by (is_from n) (returned_by o r)) here);
+      holds = omega (arith, h.holds, call_holds n r.state ends line.node (call_at r line), ap (λ o. held_from n (effect_of_line o r)) here, ap (λ o. length (frames_from n (returned_by o r))) here);
     }
 
 sum-append : (xs ys : List ℕ) → sum (xs ++ ys) ≡ sum xs + sum ys

@@ -1,10 +1,12 @@
 -- Calls of a domain: the frames that they put use as many buffers of their lanes.
-use Rattle.std.proofs.Common.{◌≡◌, ℕ, ◌+◌, ◌-◌, ◌≤◌, Bool, true, false, cond, List, [], ◌∷◌, map, Option, Some, None, count_by, option_map, refl, ap, inl, inr, arith, ltb-false}
+use Rattle.std.proofs.Common.{◌≡◌, ℕ, ◌+◌, ◌-◌, ◌≤◌, Bool, true, false, cond, List, [], ◌∷◌, map, length, ◌⊎◌, sym, ◌∙◌, Option, Some, None, count_by, option_map, refl, ap, inl, inr, arith, ltb-false}
 use Rattle.std.specs.Prelude.{◌==◌, unwrap_or}
 use Rattle.std.specs.List.{AllByRecursion}
 use Rattle.std.proofs.lemmas.Bool.Decides.{eqb_tells}
-use Rattle.mc_base.specs.Frame.{made}
-use Rattle.mc_base.specs.Letter.{PlainLetter, spelling, msg, connect, packet, scalar}
+use Rattle.std.specs.List.{flat_map}
+use Rattle.std.proofs.lemmas.List.{append-nil, length-map}
+use Rattle.mc_base.specs.Letter.{PlainLetter, msg, connect, packet, scalar}
+use Rattle.mc_base.specs.Pieces.{spellings, frames_needed}
 use Rattle.mc_base.specs.declared.name.EndName.{EndName}
 use Rattle.mc_base.specs.declared.channel.Side.TheVariants.{Sender, Receiver}
 use Rattle.mc_base.specs.declared.refusal.Refusal.{Refusal}
@@ -13,8 +15,8 @@ use Rattle.board_model.specs.DomainCall.{DomainCall, create_at, delete_at, looku
 use Rattle.board_model.specs.State.{DomainState, ChannelEnd, Endpoint, Peer, channel_of, message_at, packet_at, has_item, address_at, live_at, request_at_place, channel_in, peer_at, free_to}
 use Rattle.board_model.specs.Choice.{oldest}
 use Rattle.board_model.specs.ChannelEnds.{opened_end, closed_end}
-use Rattle.board_model.specs.Answer.{first_complete, local, put_of, over_channel, opening_letter, closing_letter, lacks_buffers, holds, words_of, refusal, unless_refused, success_puts, puts, address_of}
-use Rattle.board_model.specs.Change.{Change, endpoint_gone, best_gone, oldest_gone, channel_set, queue_dropped, request_added, request_gone, waiting_ended, end_announced, buffer_used, channel_given, changed, changed_all}
+use Rattle.board_model.specs.Answer.{first_complete, local, Post, post, put_as, puts_of, over_channel, opening_letter, closing_letter, lacks_buffers, holds, words_of, refusal, unless_refused, success_puts, puts, address_of}
+use Rattle.board_model.specs.Change.{Change, endpoint_gone, best_gone, oldest_gone, channel_set, queue_dropped, request_added, request_gone, waiting_ended, end_announced, buffers_used, channel_given, changed, changed_all}
 use Rattle.board_model.specs.CallChanges.{at_live, at_channel, at_end, new_sender, lending, lent_by_test, best_item, success_changes, effect, tested}
 use Rattle.board_model.proofs.ListsCounts.{one_if, count-cons, find-none}
 use Rattle.board_model.proofs.StateEnds.{there_is, lending-holds, tested-holds}
@@ -33,24 +35,58 @@ send_holds s node port to priority bytes e =
 abbrev pub goes_to : ℕ → ℕ × List ℕ → Bool
 goes_to n p = p.0 == n
 
--- a frame is sent only where the lane has a free buffer
-pub send_room : (s : DomainState) (node port : ℕ) (to : EndName) (priority : ℕ) (bytes : List ℕ) → refusal s node (send_from port to priority bytes) ≡ None → 1 ≤ free_to s to.domain
-send_room s node port to priority bytes e = ltb-false (free_to s to.domain) 1 (send_holds s node port to priority bytes e).room
+-- frames to a peer that has the room use as many buffers of its lane
+abbrev frees : ℕ → ℕ → ℕ → Option Peer → ℕ
+frees m n count o = unwrap_or (option_map (λ p. p.free) (option_map (λ (p : Peer). cond (m == n) (record p { free = p.free - count }) p) o)) 0
 
--- a frame uses one buffer of its lane
-used_frees : (s : DomainState) (m n : ℕ) (frame : List ℕ) → 1 ≤ free_to s m → free_to (changed s (buffer_used m)) n + count_by (goes_to n) ((m, frame) ∷ []) ≡ free_to s n
-used_frees s m n frame room = elim (eqb_tells m n) [
-  | inl same ↦ omega (arith, free-at (changed s (buffer_used m)) n, free-at s n, ap (λ o. unwrap_or (option_map (λ (p : Peer). p.free) o) 0) (peer-changed s (buffer_used m) n), by true same.0 (peer_at s n) (omega (arith, room, ap (free_to s) same.1, free-at s n)), count-cons (goes_to n) (m, frame) [], ap one_if same.0)
-  | inr differ ↦ omega (arith, free-at (changed s (buffer_used m)) n, free-at s n, ap (λ o. unwrap_or (option_map (λ (p : Peer). p.free) o) 0) (peer-changed s (buffer_used m) n), other differ.0 (peer_at s n), count-cons (goes_to n) (m, frame) [], ap one_if differ.0)
-]
+abbrev free_in : Option Peer → ℕ
+free_in o = unwrap_or (option_map (λ (p : Peer). p.free) o) 0
+
+used_frees : (s : DomainState) (m n count : ℕ) → count ≤ free_to s m → free_to (changed s (buffers_used m count)) n + cond (m == n) count 0 ≡ free_to s n
+used_frees s m n count room = omega (arith, free-at (changed s (buffers_used m count)) n, free-at s n, ap free_in (peer-changed s (buffers_used m count) n), go (eqb_tells m n))
   where
-    by : (b : Bool) → (m == n) ≡ true → (o : Option Peer) → 1 ≤ unwrap_or (option_map (λ p. p.free) o) 0 → unwrap_or (option_map (λ p. p.free) (option_map (λ (p : Peer). cond (m == n) (record p { free = p.free - 1 }) p) o)) 0 + 1 ≡ unwrap_or (option_map (λ p. p.free) o) 0
-    by b same None few = absurd (omega (arith, few))
-    by b same (Some p) few = omega (arith, few, ap (λ c. (cond c (record p { free = p.free - 1 }) p).free) same)
+    own : (m == n) ≡ true → (o : Option Peer) → count ≤ free_in o → frees m n count o + cond (m == n) count 0 ≡ free_in o
+    own same None few = omega (arith, few, ap (λ c. cond c count 0) same)
+    own same (Some p) few = omega (arith, few, ap (λ c. (cond c (record p { free = p.free - count }) p).free) same, ap (λ c. cond c count 0) same)
 
-    other : (m == n) ≡ false → (o : Option Peer) → unwrap_or (option_map (λ p. p.free) (option_map (λ (p : Peer). cond (m == n) (record p { free = p.free - 1 }) p) o)) 0 ≡ unwrap_or (option_map (λ p. p.free) o) 0
-    other differs None = refl
-    other differs (Some p) = ap (λ c. (cond c (record p { free = p.free - 1 }) p).free) differs
+    other : (m == n) ≡ false → (o : Option Peer) → frees m n count o + cond (m == n) count 0 ≡ free_in o
+    other differs None = ap (λ c. 0 + cond c count 0) differs
+    other differs (Some p) = omega (arith, ap (λ c. (cond c (record p { free = p.free - count }) p).free) differs, ap (λ c. cond c count 0) differs)
+
+    go : ((m == n) ≡ true) × (m ≡ n) ⊎ ((m == n) ≡ false) × (m ≡ n → ⊥) → frees m n count (peer_at s n) + cond (m == n) count 0 ≡ free_in (peer_at s n)
+    go (inl same) = own same.0 (peer_at s n) (omega (arith, room, ap (free_to s) same.1, free-at s n))
+    go (inr differ) = other differ.0 (peer_at s n)
+
+-- the frames of a post
+abbrev counted : ℕ → List (ℕ × List ℕ) → ℕ
+counted n ps = count_by (goes_to n) ps
+
+post_counts : (n : ℕ) (x : Post) (ps : List (List ℕ)) → counted n (map (put_as x) ps) ≡ cond (x.peer == n) (length ps) 0
+post_counts n x [] = none (x.peer == n)
+  where
+    none : (b : Bool) → ◌≡◌ {A = ℕ} 0 (cond b 0 0)
+    none true = refl
+    none false = refl
+post_counts n x (p ∷ ps) = omega (arith, count-cons (goes_to n) (put_as x p) (map (put_as x) ps), post_counts n x ps, more (x.peer == n))
+  where
+    more : (b : Bool) → cond b (length (p ∷ ps)) 0 ≡ one_if b + cond b (length ps) 0
+    more true = omega arith
+    more false = refl
+
+post_room : (s : DomainState) (x : Post) (ps : List (List ℕ)) → lacks_buffers s (map (put_as x) ps) ≡ false → length ps ≤ free_to s x.peer
+post_room s x [] room = omega arith
+post_room s x (p ∷ ps) room = omega (arith, ltb-false (free_to s x.peer) (length (map (put_as x) (p ∷ ps))) room, length-map (p ∷ ps) (put_as x))
+
+-- they use as many buffers
+put_frees : (s : DomainState) (n : ℕ) (x : Post) → lacks_buffers s (flat_map puts_of (x ∷ [])) ≡ false → free_to (changed s (buffers_used x.peer (frames_needed x.letter))) n + counted n (flat_map puts_of (x ∷ [])) ≡ free_to s n
+put_frees s n x room =
+    let all : flat_map puts_of (x ∷ []) ≡ puts_of x = append-nil (puts_of x) in
+    omega (
+      arith,
+      used_frees s x.peer n (frames_needed x.letter) (post_room s x (spellings x.letter) (ap (lacks_buffers s) (sym all) ∙ room)),
+      ap (counted n) all,
+      post_counts n x (spellings x.letter),
+    )
 
 -- changes that keep what is free at a peer
 kept_frees : (s : DomainState) (n : ℕ) (cs : List Change) → AllByRecursion (Keeps (λ p. p.free) s.number n) cs → free_to (changed_all s cs) n + 0 ≡ free_to s n
@@ -62,14 +98,14 @@ live_frees s n (Some e) f keep = kept_frees s n (f e) (keep e)
 
 -- a frame over the channel of an endpoint, where it has one
 over_frees : (s : DomainState) (n : ℕ) (f : Endpoint → ChannelEnd → List Change) (letter : ℕ → PlainLetter) → ((e : Endpoint) (c : ChannelEnd) → AllByRecursion (Keeps (λ p. p.free) s.number n) (f e c)) → (o : Option Endpoint) →
-    lacks_buffers s (map put_of (over_channel o (channel_in o) letter)) ≡ false → free_to (changed_all s (at_end o (λ e c. buffer_used c.peer ∷ f e c))) n + count_by (goes_to n) (map put_of (over_channel o (channel_in o) letter)) ≡ free_to s n
+    lacks_buffers s (flat_map puts_of (over_channel o (channel_in o) letter)) ≡ false → free_to (changed_all s (at_end o (λ e c. buffers_used c.peer (frames_needed (letter c.number)) ∷ f e c))) n + counted n (flat_map puts_of (over_channel o (channel_in o) letter)) ≡ free_to s n
 over_frees s n f letter keep None room = omega arith
 over_frees s n f letter keep (Some e) room = go e.channel room
   where
-    go : (c : Option ChannelEnd) → lacks_buffers s (map put_of (over_channel (Some e) c letter)) ≡ false → free_to (changed_all s (at_channel c (λ d. buffer_used d.peer ∷ f e d))) n + count_by (goes_to n) (map put_of (over_channel (Some e) c letter)) ≡ free_to s n
+    go : (c : Option ChannelEnd) → lacks_buffers s (flat_map puts_of (over_channel (Some e) c letter)) ≡ false → free_to (changed_all s (at_channel c (λ d. buffers_used d.peer (frames_needed (letter d.number)) ∷ f e d))) n + counted n (flat_map puts_of (over_channel (Some e) c letter)) ≡ free_to s n
     go None room = omega arith
     go (Some c) room =
-        omega (arith, kept_frees (changed s (buffer_used c.peer)) n (f e c) (keep e c), used_frees s c.peer n (made e.address c.peer_address (spelling (letter c.number))) (ltb-false (free_to s c.peer) 1 room))
+        omega (arith, kept_frees (changed s (buffers_used c.peer (frames_needed (letter c.number)))) n (f e c) (keep e c), put_frees s n (post c.peer e.address c.peer_address (letter c.number)) room)
 
 success_frees : (s : DomainState) (n node : ℕ) (call : DomainCall) → refusal s node call ≡ None → free_to (changed_all s (success_changes s node call)) n + count_by (goes_to n) (success_puts s node call) ≡ free_to s n
 success_frees s n node (create_at port) e =
@@ -79,7 +115,7 @@ success_frees s n node (delete_at port) e =
     (λ e. ((λ p. refl), ((λ p. refl), ((λ p. owed-free s.number (record { local = e.local; address = e.address; create = false }) p), tt))))
 success_frees s n node (lookup_of name) e = omega arith
 success_frees s n node (send_from port to priority bytes) e =
-    used_frees s to.domain n (made (unwrap_or (address_at s (local node port)) 0) (unwrap_or (address_of s to) 0) (spelling (msg priority bytes))) (send_room s node port to priority bytes e)
+    put_frees s n (post to.domain (unwrap_or (address_at s (local node port)) 0) (unwrap_or (address_of s to) 0) (msg priority bytes)) (send_holds s node port to priority bytes e).room
 success_frees s n node (receive_at port max) e = live_frees s n (live_at s (local node port)) (λ e. best_gone e.address ∷ []) (λ e. ((λ p. refl), tt))
 success_frees s n node (request_at port max) e =
     live_frees s n (live_at s (local node port)) (λ e. best_gone e.address ∷ request_added (message_at e.local max) (option_map has_item (best_item e)) ∷ []) (λ e. ((λ p. refl), ((λ p. refl), tt)))
@@ -88,16 +124,19 @@ success_frees s n node (connect_from port to kind) e =
     let words = find-none (holds s node (connect_from port to kind)) (words_of (connect_from port to kind)) e in
     let there = there_is s (local node port) words.0 in
     let new : List Change = channel_set there.0.address (Some (new_sender s to kind)) ∷ request_added (channel_of (s.channels_given + 1)) None ∷ channel_given ∷ [] in
-    let frame : List ℕ = made (unwrap_or (address_at s (local node port)) 0) (unwrap_or (address_of s to) 0) (spelling (connect (s.channels_given + 1) kind)) in
+    let first : Post = post to.domain (unwrap_or (address_at s (local node port)) 0) (unwrap_or (address_of s to) 0) (connect (s.channels_given + 1) kind) in
     omega (
       arith,
-      ap (λ o. free_to (changed_all s (at_live o (λ e. buffer_used to.domain ∷ channel_set e.address (Some (new_sender s to kind)) ∷ request_added (channel_of (s.channels_given + 1)) None ∷ channel_given ∷ []))) n) there.1,
-      kept_frees (changed s (buffer_used to.domain)) n new ((λ p. refl), ((λ p. refl), ((λ p. refl), tt))),
-      used_frees s to.domain n frame (ltb-false (free_to s to.domain) 1 words.1.1.1.1.1.1.0),
+      ap (λ o. free_to (changed_all s (at_live o (λ e. buffers_used to.domain 1 ∷ channel_set e.address (Some (new_sender s to kind)) ∷ request_added (channel_of (s.channels_given + 1)) None ∷ channel_given ∷ []))) n) there.1,
+      kept_frees (changed s (buffers_used to.domain 1)) n new ((λ p. refl), ((λ p. refl), ((λ p. refl), tt))),
+      put_frees s n first words.1.1.1.1.1.1.0,
     )
-success_frees s n node (open_at port side kind) e =
-    let words = find-none (holds s node (open_at port side kind)) (words_of (open_at port side kind)) e in
-    over_frees s n (λ e c. channel_set e.address (Some (opened_end c)) ∷ []) (opening_letter side) (λ e c. ((λ p. refl), tt)) (live_at s (local node port)) words.1.1.1.1.1.1.0
+success_frees s n node (open_at port Sender kind) e =
+    let words = find-none (holds s node (open_at port Sender kind)) (words_of (open_at port Sender kind)) e in
+    over_frees s n (λ e c. channel_set e.address (Some (opened_end c)) ∷ []) (opening_letter Sender) (λ e c. ((λ p. refl), tt)) (live_at s (local node port)) words.1.1.1.1.1.1.0
+success_frees s n node (open_at port Receiver kind) e =
+    let words = find-none (holds s node (open_at port Receiver kind)) (words_of (open_at port Receiver kind)) e in
+    over_frees s n (λ e c. channel_set e.address (Some (opened_end c)) ∷ []) (opening_letter Receiver) (λ e c. ((λ p. refl), tt)) (live_at s (local node port)) words.1.1.1.1.1.1.0
 success_frees s n node (packet_from port bytes) e =
     let words = find-none (holds s node (packet_from port bytes)) (words_of (packet_from port bytes)) e in
     over_frees s n (λ e c. []) (λ number. packet number bytes) (λ e c. tt) (live_at s (local node port)) words.1.1.1.1.1.1.1.0
@@ -120,7 +159,7 @@ success_frees s n node (wait_for requests says_place) e = kept_frees s n (tested
 success_frees s n node (cancel_of request) e = omega arith
 success_frees s n node (raw_to to bytes) e =
     let words = find-none (holds s node (raw_to to bytes)) (words_of (raw_to to bytes)) e in
-    used_frees s to n bytes (ltb-false (free_to s to) 1 words.1.1.0)
+    omega (arith, used_frees s to n 1 (ltb-false (free_to s to) 1 words.1.1.0), count-cons (goes_to n) (to, bytes) [])
 success_frees s n node turn_alone e = omega arith
 
 -- the frames that a call puts to a peer use as many buffers of the lane to it

@@ -4,7 +4,6 @@ pub mod BoardsNeighbours
 pub mod BoardsRising
 pub mod BoardsScripts
 pub mod DeedGiven
-pub mod DeedHeld
 pub mod DeedJoins
 pub mod DeedRuns
 pub mod DeedTraffic
@@ -24,6 +23,7 @@ pub mod KeptItems
 pub mod KeptLanes
 pub mod KeptLines
 pub mod KeptNumbers
+pub mod KeptReach
 pub mod KeptRuns
 pub mod KeptSends
 pub mod KeptSent
@@ -79,6 +79,12 @@ pub mod OrderSerials
 pub mod OrderSound
 pub mod OrderStands
 pub mod OrderTakings
+pub mod PartLetters
+pub mod WholeFrames
+pub mod PartReadings
+pub mod PartRuns
+pub mod PartLaw
+pub mod PartPuts
 pub mod PlaceBoards
 pub mod PlaceCounts
 pub mod WaitCalls

@@ -1,6 +1,6 @@
 -- The best item of a queue: what a map of its items keeps, how many pass a test with it and without it, and that there is
 -- one where the queue is not empty.
-use Rattle.std.proofs.Common.{◌≡◌, ℕ, ◌+◌, Bool, true, false, cond, List, [], ◌∷◌, map, Option, Some, None, refl, sym, ap, ◌∙◌, arith}
+use Rattle.std.proofs.Common.{◌≡◌, ℕ, ◌+◌, Bool, true, false, cond, List, [], ◌∷◌, map, sum_by, Option, Some, None, refl, sym, ap, ◌∙◌, arith}
 use Rattle.std.specs.Prelude.{find, count_by, option_map, option_to_list, ◌==◌}
 use Rattle.std.specs.List.{AllByRecursion}
 use Rattle.std.proofs.lemmas.List.Sums.{sum_by-cons}
@@ -41,16 +41,19 @@ module _ {A : Type 0} (priority : A → ℕ) where
 pub count-cons : {A : Type 0} (test : A → Bool) (x : A) (xs : List A) → count_by test (x ∷ xs) ≡ cond (test x) 1 0 + count_by test xs
 count-cons test x xs = sum_by-cons (λ y. cond (test y) 1 0) x xs
 
-count_here : {A : Type 0} (test : A → Bool) (b : Bool) (x : A) (o : Option A) (xs ys : List A) → count_by test (option_to_list o) + count_by test ys ≡ count_by test xs → count_by test (option_to_list (cond b (Some x) o)) + count_by test (cond b xs (x ∷ ys)) ≡ count_by test (x ∷ xs)
-count_here test true x o xs ys h = omega (arith, count-cons test x xs, count-cons test x [])
-count_here test false x o xs ys h = omega (arith, count-cons test x xs, count-cons test x ys)
+sum_here : {A : Type 0} (w : A → ℕ) (b : Bool) (x : A) (o : Option A) (xs ys : List A) → sum_by w (option_to_list o) + sum_by w ys ≡ sum_by w xs → sum_by w (option_to_list (cond b (Some x) o)) + sum_by w (cond b xs (x ∷ ys)) ≡ sum_by w (x ∷ xs)
+sum_here w true x o xs ys h = omega (arith, sum_by-cons w x xs, sum_by-cons w x [])
+sum_here w false x o xs ys h = omega (arith, sum_by-cons w x xs, sum_by-cons w x ys)
 
-count-first : {A : Type 0} (test p : A → Bool) (xs : List A) → count_by test (option_to_list (find p xs)) + count_by test (without_first p xs) ≡ count_by test xs
-count-first test p [] = refl
-count-first test p (x ∷ xs) = count_here test (p x) x (find p xs) xs (without_first p xs) (count-first test p xs)
+sum_first : {A : Type 0} (w : A → ℕ) (p : A → Bool) (xs : List A) → sum_by w (option_to_list (find p xs)) + sum_by w (without_first p xs) ≡ sum_by w xs
+sum_first w p [] = refl
+sum_first w p (x ∷ xs) = sum_here w (p x) x (find p xs) xs (without_first p xs) (sum_first w p xs)
+
+pub sum-best : {A : Type 0} (w : A → ℕ) (priority : A → ℕ) (q : List A) → sum_by w (option_to_list (best priority q)) + sum_by w (without_best priority q) ≡ sum_by w q
+sum-best w priority q = rw (best_is priority q, without_best_is priority q) (sum_first w (λ x. priority x == least priority q) q)
 
 pub count-best : {A : Type 0} (test : A → Bool) (priority : A → ℕ) (q : List A) → count_by test (option_to_list (best priority q)) + count_by test (without_best priority q) ≡ count_by test q
-count-best test priority q = rw (best_is priority q, without_best_is priority q) (count-first test (λ x. priority x == least priority q) q)
+count-best test priority q = sum-best (λ x. cond (test x) 1 0) priority q
 
 -- ---- under a map that keeps the priority
 

@@ -1,7 +1,12 @@
 -- The letters of a channel stand on one lane, and its contents there are those of the sends that were accepted.
-use Rattle.std.proofs.Common.{◌≡◌, ℕ, ◌+◌, Bool, true, false, cond, inl, inr, List, [], ◌∷◌, ◌++◌, map, Option, Some, None, refl, sym, ap, ◌∙◌, subst, arith}
+use Rattle.board_model.proofs.PartPuts.{one_post as one_letter, posts_closed, deed_closed}
+use Rattle.board_model.proofs.PartReadings.{Closed}
+use Rattle.board_model.specs.Parts.{coming}
+use Rattle.std.proofs.lemmas.List.Concat.{flat_map-append}
+use Rattle.board_model.proofs.PartLetters.{letter_frames, said-once}
+use Rattle.std.proofs.Common.{◌≡◌, ℕ, ◌+◌, Bool, true, false, cond, inl, inr, List, [], ◌∷◌, ◌++◌, Option, Some, None, refl, sym, ap, ◌∙◌, subst, arith, ap₂}
 use Rattle.std.specs.Prelude.{◌==◌, unwrap_or}
-use Rattle.std.specs.List.{AllByRecursion}
+use Rattle.std.specs.List.{AllByRecursion, flat_map}
 use Rattle.std.proofs.lemmas.List.{append_assoc, append-nil}
 use Rattle.std.proofs.lemmas.Bool.{eqb-true, eq-eqb, cases_Bool, ne_eqb, eqb-false}
 use Rattle.byteorder.specs.Endian.{little_bytes}
@@ -20,8 +25,8 @@ use Rattle.board_model.proofs.HearingCalls.{Own, not_false, of_end}
 use Rattle.board_model.proofs.HearingLaw.{way_of-append, letters-append, contents-append}
 use Rattle.board_model.proofs.Sending.{sent_of, sent, Sending, fresh, numbered, SentAt}
 use Rattle.board_model.proofs.SendingCalls.{Reads}
-use Rattle.board_model.proofs.SendingDeeds.{owed_put_mute, ReadsDeed, AllOut, sender_step}
-use Rattle.board_model.specs.Answer.{Post, post, put_of, local, address_of, channel_at, over_channel, over_end, success_posts, success_puts, success, answer_by, holds, words_of, refusal, unless_refused}
+use Rattle.board_model.proofs.SendingDeeds.{owed_put_mute, ReadsDeed, AllOut, sender_step, alone_mute}
+use Rattle.board_model.specs.Answer.{Post, post, puts_of, local, address_of, channel_at, over_channel, over_end, success_posts, success_puts, success, answer_by, holds, words_of, refusal, unless_refused}
 use Rattle.board_model.specs.CallChanges.{at_channel, at_end}
 use Rattle.board_model.specs.ChannelEnds.{opens, sends, closes, is_closed}
 use Rattle.board_model.specs.Channels.{accepted_by}
@@ -43,7 +48,7 @@ module _ (n : ℕ) (s : DomainState) where
 
   -- the letters of posts
   abbrev of_posts : ℕ → List Post → List Sent
-  of_posts p xs = letters n (frames_to p (map put_of xs))
+  of_posts p xs = letters n (frames_to p (flat_map puts_of xs))
 
   abbrev said : Post → Sent
   said x = record { source = x.source; destination = x.destination; letter = x.letter }
@@ -52,10 +57,10 @@ module _ (n : ℕ) (s : DomainState) where
   post_on x = cond (letter_on n x.letter) (said x ∷ []) []
 
   one_post : (p : ℕ) (x : Post) → Reads x → of_posts p (x ∷ []) ≡ cond (x.peer == p) (post_on x) []
-  one_post p x read = go (x.peer == p)
+  one_post p x read = ap (letters n) (one_letter p x) ∙ go (x.peer == p)
     where
-      go : (b : Bool) → letters n (cond b ((put_of x).1 ∷ []) [] ++ []) ≡ cond b (post_on x) []
-      go true = append-nil (sent_by n (reading (put_of x).1)) ∙ ap (sent_by n) read
+      go : (b : Bool) → letters n (cond b (letter_frames x.source x.destination x.letter) []) ≡ cond b (post_on x) []
+      go true = said-once (sent_by n) (λ a d q. refl) x.source x.destination x.letter (letter_frames x.source x.destination x.letter) read
       go false = refl
 
   elsewhere : (p : ℕ) (x : Post) → Reads x → (p == x.peer) ≡ false → of_posts p (x ∷ []) ≡ []
@@ -108,11 +113,16 @@ module _ (n : ℕ) (s : DomainState) where
         live None found reads = deals_nothing (λ p. refl) refl
         live (Some e) found reads = ended e found e.channel refl reads
 
+    frames_alone : (p : ℕ) (x : Post) → frames_to p (flat_map puts_of (x ∷ [])) ≡ frames_to p (puts_of x)
+    frames_alone p x = flat_map-append (λ (q : ℕ × List ℕ). frames_if (q.0 == p) (q.1 ∷ [])) (puts_of x) [] ∙ append-nil (frames_to p (puts_of x))
+
     -- letters that are not of the channel's sender
     off_lane : (xs : List Post) → AllByRecursion (λ x. letter_on n x.letter ≡ false) xs → AllByRecursion Reads xs → (p : ℕ) → of_posts p xs ≡ []
     off_lane [] off read p = refl
-    off_lane (x ∷ xs) off read p = letters-append n (frames_if (x.peer == p) ((put_of x).1 ∷ [])) (frames_to p (map put_of xs))
-        ∙ (ap (λ k. k ++ of_posts p xs) (sym (ap (letters n) (append-nil (frames_if (x.peer == p) ((put_of x).1 ∷ [])))) ∙ no_letter p x read.0 off.0) ∙ off_lane xs off.1 read.1 p)
+    off_lane (x ∷ xs) off read p =
+        ap (letters n) (flat_map-append (λ (q : ℕ × List ℕ). frames_if (q.0 == p) (q.1 ∷ [])) (puts_of x) (flat_map puts_of xs))
+        ∙ (letters-append n (frames_to p (puts_of x)) (frames_to p (flat_map puts_of xs)) (subst Closed (frames_alone p x) (posts_closed p (x ∷ []) (read.0, tt)))
+        ∙ ap₂ (λ (xs ys : List Sent). xs ++ ys) (ap (letters n) (sym (frames_alone p x)) ∙ no_letter p x read.0 off.0) (off_lane xs off.1 read.1 p))
 
     all_off_over : (x : Option Endpoint) (y : Option ChannelEnd) (l : ℕ → PlainLetter) → ((m : ℕ) → letter_on n (l m) ≡ false) → AllByRecursion (λ p. letter_on n p.letter ≡ false) (over_channel x y l)
     all_off_over None y l off = tt
@@ -172,7 +182,7 @@ module _ (n : ℕ) (s : DomainState) where
     deed_deals (puts_owed q frame) may read = deals_nothing (λ p. go (q == p)) refl
       where
         go : (b : Bool) → letters n (frames_if b (frame ∷ [])) ≡ []
-        go true = append-nil (sent_by n (reading frame)) ∙ owed_put_mute n s q frame may
+        go true = append-nil (sent_by n (coming None (reading frame)).reading) ∙ alone_mute n frame (owed_put_mute n s q frame may)
         go false = refl
 
 -- ---- the one lane along a run
@@ -276,6 +286,6 @@ aim_run n s (d ∷ ds) w t m accepted may out sending aim =
     let here = aim_step n s w t m accepted sending put (accepted_by n s d) (λ p. (step p).0) (deed_deals n s out.0.0 d may.0 out.0.1) aim in
     let rest = aim_run n (after_deed s d) ds (λ p. way_of (w p) (put p)) (λ p. t p ++ takes_by p d) (λ p. m p ++ contents (put p)) (accepted ++ accepted_by n s d) may.1 out.1 (λ p. (step p).1) here in
     aim_same _ _ _ _ _ _
-    (λ p. ap (way_of (w p)) (letters-append n (puts_by p s d) (along (puts_by p) (after_deed s d) ds)) ∙ way_of-append (w p) (put p) (letters n (along (puts_by p) (after_deed s d) ds)))
-    (λ p. ap (λ k. m p ++ contents k) (letters-append n (puts_by p s d) (along (puts_by p) (after_deed s d) ds)) ∙ (ap (λ k. m p ++ k) (contents-append (put p) (letters n (along (puts_by p) (after_deed s d) ds))) ∙ sym (append_assoc (m p) (contents (put p)) (contents (letters n (along (puts_by p) (after_deed s d) ds))))))
+    (λ p. ap (way_of (w p)) (letters-append n (puts_by p s d) (along (puts_by p) (after_deed s d) ds) (deed_closed p s d may.0 out.0.1)) ∙ way_of-append (w p) (put p) (letters n (along (puts_by p) (after_deed s d) ds)))
+    (λ p. ap (λ k. m p ++ contents k) (letters-append n (puts_by p s d) (along (puts_by p) (after_deed s d) ds) (deed_closed p s d may.0 out.0.1)) ∙ (ap (λ k. m p ++ k) (contents-append (put p) (letters n (along (puts_by p) (after_deed s d) ds))) ∙ sym (append_assoc (m p) (contents (put p)) (contents (letters n (along (puts_by p) (after_deed s d) ds))))))
     (sym (append_assoc accepted (accepted_by n s d) (along (accepted_by n) (after_deed s d) ds))) rest

@@ -1,4 +1,6 @@
 -- What the calls of channels do to the messages that are queued.
+use Rattle.mc_base.specs.Letter.{packet}
+use Rattle.mc_base.specs.Pieces.{frames_needed}
 use Rattle.std.proofs.Common.{◌≡◌, inl, ℕ, ◌+◌, ◌≤◌, Bool, true, false, not, cond, List, [], ◌∷◌, map, filter, drop, length, Option, Some, None, option_map, option_to_list, refl, sym, ap, ◌∙◌, subst, arith}
 use Rattle.std.specs.Prelude.{◌==◌, ◌||◌}
 use Rattle.std.specs.List.{AllByRecursion}
@@ -17,7 +19,7 @@ use Rattle.board_model.specs.Journal.{agrees}
 use Rattle.board_model.specs.Choice.{oldest}
 use Rattle.board_model.specs.State.{Item, ChannelEnd, Endpoint, channel_of, packet_at, has_item, DomainState, live_at, queue_at, endpoint_of, queue_in, channel_in, one_waits}
 use Rattle.board_model.specs.Answer.{local, holds, words_of, refusal, success, unless_refused, lent_whole, value_of, holds_at_end}
-use Rattle.board_model.specs.Change.{Change, oldest_gone, channel_set, queue_dropped, request_added, waiting_ended, with_channel, buffer_used, packet_lent, channel_given, changed, changed_all}
+use Rattle.board_model.specs.Change.{Change, oldest_gone, channel_set, queue_dropped, request_added, waiting_ended, with_channel, buffers_used, packet_lent, channel_given, changed, changed_all}
 use Rattle.board_model.specs.ChannelEnds.{opens, sends, receives, closes, same_side, opened_end, closed_end}
 use Rattle.board_model.specs.CallChanges.{at_live, at_channel, at_end, new_sender, closing, lending, success_changes}
 use Rattle.board_model.specs.Deeds.{Deed, calls}
@@ -39,10 +41,10 @@ use Rattle.board_model.proofs.OrderMessageCalls.{one_gone, zero_full, found_own,
 module _ (room : ℕ) (before : List Deed) (s : DomainState) (moment : Moment room before s) (node : ℕ) where
   -- ---- connect
 
-  connect_effect : (e : Endpoint) (at : Local) (peer number : ℕ) (c : ChannelEnd) → live_at s at ≡ Some e → e.queue ≡ [] → Effect before s (buffer_used peer ∷ channel_set e.address (Some c) ∷ request_added (channel_of number) None ∷ channel_given ∷ []) [] (λ b. [])
+  connect_effect : (e : Endpoint) (at : Local) (peer number : ℕ) (c : ChannelEnd) → live_at s at ≡ Some e → e.queue ≡ [] → Effect before s (buffers_used peer 1 ∷ channel_set e.address (Some c) ∷ request_added (channel_of number) None ∷ channel_given ∷ []) [] (λ b. [])
   connect_effect e at peer number c found none =
-      let t : DomainState = changed s (buffer_used peer) in
-      quiet before s (buffer_used peer ∷ channel_set e.address (Some c) ∷ request_added (channel_of number) None ∷ channel_given ∷ [])
+      let t : DomainState = changed s (buffers_used peer 1) in
+      quiet before s (buffers_used peer 1 ∷ channel_set e.address (Some c) ∷ request_added (channel_of number) None ∷ channel_given ∷ [])
       (tt, ((λ f is. let same : e ≡ f = one f is in subst (λ x. Bound x.queue (Some c)) same (bound_empty e.queue none (Some c))), (not_received (channel_of number) (λ l. refl) None (changed t (channel_set e.address (Some c))).endpoints, (tt, tt))))
       (old_last s _ (inl refl) s.requests (all_old s))
       (λ b. queued_same (with_channel (Some c)) (λ x. refl) t e.address b (λ f is. let same : e ≡ f = one f is in subst (λ (x : Endpoint). [] ≡ messages_at x.channel x.queue) same (sym (ap (messages_at e.channel) none ∙ messages_none e.channel))))
@@ -62,28 +64,28 @@ module _ (room : ℕ) (before : List Deed) (s : DomainState) (moment : Moment ro
       (connect_effect e.0 (local node port) to.domain (s.channels_given + 1) (new_sender s to kind) e.1 none)
     where
       connect_changes : Option Endpoint → List Change
-      connect_changes o = at_live o (λ e. buffer_used to.domain ∷ channel_set e.address (Some (new_sender s to kind)) ∷ request_added (channel_of (s.channels_given + 1)) None ∷ channel_given ∷ [])
+      connect_changes o = at_live o (λ e. buffers_used to.domain 1 ∷ channel_set e.address (Some (new_sender s to kind)) ∷ request_added (channel_of (s.channels_given + 1)) None ∷ channel_given ∷ [])
 
   -- ---- open and close
 
   module _ (e : Endpoint) (at : Local) (found : live_at s at ≡ Some e) (c : ChannelEnd) (ends : e.channel ≡ Some c) (peer : ℕ) where
     abbrev used : DomainState
-    used = changed s (buffer_used peer)
+    used = changed s (buffers_used peer 1)
 
     used_sound : Sound used
-    used_sound = sound_change s moment.sound (buffer_used peer) tt
+    used_sound = sound_change s moment.sound (buffers_used peer 1) tt
 
     here_own : endpoint_of s e.address ≡ Some e
     here_own = sound_own s moment.sound at e found
 
-    set_effect : (d : Option ChannelEnd) → Follows c d → Effect before s (buffer_used peer ∷ channel_set e.address d ∷ []) [] (λ b. [])
-    set_effect d follows = quiet before s (buffer_used peer ∷ channel_set e.address d ∷ []) (tt, (set_fits used used_sound e.address e here_own c ends d follows, tt)) (all_old s) (λ b. set_same used used_sound e.address e here_own c ends d follows b) (kept [] (λ k. refl))
+    set_effect : (d : Option ChannelEnd) → Follows c d → Effect before s (buffers_used peer 1 ∷ channel_set e.address d ∷ []) [] (λ b. [])
+    set_effect d follows = quiet before s (buffers_used peer 1 ∷ channel_set e.address d ∷ []) (tt, (set_fits used used_sound e.address e here_own c ends d follows, tt)) (all_old s) (λ b. set_same used used_sound e.address e here_own c ends d follows b) (kept [] (λ k. refl))
 
-    dropped_effect : (w : Refusal) (d : Option ChannelEnd) → Effect before s (buffer_used peer ∷ waiting_ended e.address w ∷ queue_dropped e.address d ∷ []) [] (λ b. [])
+    dropped_effect : (w : Refusal) (d : Option ChannelEnd) → Effect before s (buffers_used peer 1 ∷ waiting_ended e.address w ∷ queue_dropped e.address d ∷ []) [] (λ b. [])
     dropped_effect w d =
         let t : DomainState = changed used (waiting_ended e.address w) in
         let sure : Sound t = sound_change used used_sound (waiting_ended e.address w) tt in
-        quiet before s (buffer_used peer ∷ waiting_ended e.address w ∷ queue_dropped e.address d ∷ []) (tt, (tt, (tt, tt))) (ended_old s (endpoint_of s e.address) w) (λ b. dropped_same t sure e.address e here_own c ends d b) (ended_by s (endpoint_of s e.address) w)
+        quiet before s (buffers_used peer 1 ∷ waiting_ended e.address w ∷ queue_dropped e.address d ∷ []) (tt, (tt, (tt, tt))) (ended_old s (endpoint_of s e.address) w) (λ b. dropped_same t sure e.address e here_own c ends d b) (ended_by s (endpoint_of s e.address) w)
 
   opened_follows : (c : ChannelEnd) → Follows c (Some (opened_end c))
   opened_follows c = (refl, refl, λ m. mute_sender c (go (same_side c.side Sender) m))
@@ -101,8 +103,8 @@ module _ (room : ℕ) (before : List Deed) (s : DomainState) (moment : Moment ro
       let words = none_holds (holds s node (open_at port side kind)) (words_of (open_at port side kind)) is in
       let e = live_here s (local node port) words.0 in
       let c = end_here s (local node port) e.0 (opens side kind) e.1 words.1.0 in
-      effect_does room before s moment node (open_at port side kind) agrees (buffer_used c.0.peer ∷ channel_set e.0.address (Some (opened_end c.0)) ∷ []) [] (λ b. [])
-      (ap (λ o. unless_refused o [] (success_changes s node (open_at port side kind))) is ∙ end_changes (λ e c. buffer_used c.peer ∷ channel_set e.address (Some (opened_end c)) ∷ []) (local node port) e.0 c.0 e.1 c.1) refl (λ b. refl) (omega arith)
+      effect_does room before s moment node (open_at port side kind) agrees (buffers_used c.0.peer 1 ∷ channel_set e.0.address (Some (opened_end c.0)) ∷ []) [] (λ b. [])
+      (ap (λ o. unless_refused o [] (success_changes s node (open_at port side kind))) is ∙ end_changes (λ e c. buffers_used c.peer 1 ∷ channel_set e.address (Some (opened_end c)) ∷ []) (local node port) e.0 c.0 e.1 c.1) refl (λ b. refl) (omega arith)
       (set_effect e.0 (local node port) e.1 c.0 c.1 c.0.peer (Some (opened_end c.0)) (opened_follows c.0))
 
   pub close_does : (port : ℕ) (side : Side) → refusal s node (close_at port side) ≡ None → Does room before s (calls node (close_at port side) (success s node (close_at port side)))
@@ -124,24 +126,24 @@ module _ (room : ℕ) (before : List Deed) (s : DomainState) (moment : Moment ro
 
   -- ---- sends
 
-  put_effect : (peer : ℕ) → Effect before s (buffer_used peer ∷ []) [] (λ b. [])
-  put_effect peer = quiet before s (buffer_used peer ∷ []) (tt, tt) (all_old s) (λ b. refl) (kept [] (λ k. refl))
+  put_effect : (peer count : ℕ) → Effect before s (buffers_used peer count ∷ []) [] (λ b. [])
+  put_effect peer count = quiet before s (buffers_used peer count ∷ []) (tt, tt) (all_old s) (λ b. refl) (kept [] (λ k. refl))
 
   pub packet_does : (port : ℕ) (bytes : List ℕ) → refusal s node (packet_from port bytes) ≡ None → Does room before s (calls node (packet_from port bytes) agrees)
   packet_does port bytes is =
       let words = none_holds (holds s node (packet_from port bytes)) (words_of (packet_from port bytes)) is in
       let e = live_here s (local node port) words.0 in
       let c = end_here s (local node port) e.0 (sends Packet) e.1 words.1.0 in
-      effect_does room before s moment node (packet_from port bytes) agrees (buffer_used c.0.peer ∷ []) [] (λ b. [])
-      (ap (λ o. unless_refused o [] (success_changes s node (packet_from port bytes))) is ∙ end_changes (λ e c. buffer_used c.peer ∷ []) (local node port) e.0 c.0 e.1 c.1) refl (λ b. refl) (omega arith) (put_effect c.0.peer)
+      effect_does room before s moment node (packet_from port bytes) agrees (buffers_used c.0.peer (frames_needed (packet c.0.number bytes)) ∷ []) [] (λ b. [])
+      (ap (λ o. unless_refused o [] (success_changes s node (packet_from port bytes))) is ∙ end_changes (λ e c. buffers_used c.peer (frames_needed (packet c.number bytes)) ∷ []) (local node port) e.0 c.0 e.1 c.1) refl (λ b. refl) (omega arith) (put_effect c.0.peer (frames_needed (packet c.0.number bytes)))
 
   pub scalar_does : (port : ℕ) (bits : Bits) (value : ℕ) → refusal s node (scalar_from port bits value) ≡ None → Does room before s (calls node (scalar_from port bits value) agrees)
   scalar_does port bits value is =
       let words = none_holds (holds s node (scalar_from port bits value)) (words_of (scalar_from port bits value)) is in
       let e = live_here s (local node port) words.0 in
       let c = end_here s (local node port) e.0 (sends Scalar) e.1 words.1.0 in
-      effect_does room before s moment node (scalar_from port bits value) agrees (buffer_used c.0.peer ∷ []) [] (λ b. [])
-      (ap (λ o. unless_refused o [] (success_changes s node (scalar_from port bits value))) is ∙ end_changes (λ e c. buffer_used c.peer ∷ []) (local node port) e.0 c.0 e.1 c.1) refl (λ b. refl) (omega arith) (put_effect c.0.peer)
+      effect_does room before s moment node (scalar_from port bits value) agrees (buffers_used c.0.peer 1 ∷ []) [] (λ b. [])
+      (ap (λ o. unless_refused o [] (success_changes s node (scalar_from port bits value))) is ∙ end_changes (λ e c. buffers_used c.peer 1 ∷ []) (local node port) e.0 c.0 e.1 c.1) refl (λ b. refl) (omega arith) (put_effect c.0.peer 1)
 
   -- ---- the oldest of a channel is gone
 

@@ -1,11 +1,12 @@
 -- What a frame's row does, whatever the frame says. A letter of a channel neither brings a message nor takes one.
-use Rattle.std.proofs.Common.{◌≡◌, ℕ, Bool, true, false, not, cond, List, [], ◌∷◌, ◌++◌, length, Option, Some, None, refl, sym, ap, ap₂, ◌∙◌, filter, map, option_to_list, subst, arith}
+use Rattle.board_model.specs.Parts.{Came}
+use Rattle.std.proofs.Common.{◌≡◌, ℕ, Bool, true, false, not, cond, List, [], ◌∷◌, ◌++◌, length, Option, Some, None, refl, sym, ap, ap₂, ◌∙◌, filter, map, subst, arith}
 use Rattle.std.specs.Prelude.{◌==◌, ◌&&◌, ◌||◌, is_some, is_none}
 use Rattle.std.specs.List.{AllByRecursion, flat_map}
 use Rattle.std.proofs.lemmas.Bool.{eqb-true, eq-eqb, and_parts}
 use Rattle.mc_base.specs.Letter.{PlainLetter, msg, connect, accept, reject, recv_open, send_open, packet, scalar, send_close, recv_close}
 use Rattle.mc_base.specs.FullName.{endpoint_named}
-use Rattle.mc_base.specs.Reading.{Reading, is_faulty, announces, says}
+use Rattle.mc_base.specs.Reading.{Reading, is_faulty, announces, says, brings}
 use Rattle.mc_base.specs.declared.fate.Fate.{Fate}
 use Rattle.mc_base.specs.declared.fate.Fate.TheVariants as fate
 use Rattle.mc_base.specs.declared.channel.Kind.{Kind}
@@ -16,22 +17,21 @@ use Rattle.mc_base.specs.declared.channel.Side.{Side}
 use Rattle.mc_base.specs.declared.channel.Side.TheVariants.{Sender, Receiver}
 use Rattle.mc_base.specs.declared.refusal.Refusal.TheVariants.{ChanClosed}
 use Rattle.board_model.specs.State.{connected, Item, ChannelEnd, Endpoint, Outcome, is_accepted, is_rejected, DomainState, endpoint_of, Request, one_waits, oldest_waiting, peer_at}
-use Rattle.board_model.specs.Change.{frame_taken, channel_set, waiting_ended, connect_settled, item_queued, item_handed, item_lost, with_channel, all_done, connects_on, changed}
+use Rattle.board_model.specs.Change.{channel_set, waiting_ended, connect_settled, item_queued, item_handed, item_lost, with_channel, all_done, connects_on, changed}
 use Rattle.board_model.specs.ChannelEnds.{same_side, same_kind, is_closed, is_connecting, hears_from, sends_to, accepted_end, far_closed_end, data_rows}
 use Rattle.board_model.specs.Channels.{is_numbered}
-use Rattle.board_model.specs.Deeds.{Deed}
+use Rattle.board_model.specs.Deeds.{Deed, taken_change}
 use Rattle.board_model.specs.Takings.{taking, is_message_taking, asked_address}
 use Rattle.board_model.specs.MessageOrder.{is_queued, item_said}
 use Rattle.board_model.specs.TakenFrames.{row, last_row, first_row, row_of, names_of, is_busy, accepting, rejecting, connect_rows, rows_by, channel_rows, letter_rows, item_of}
 use Rattle.board_model.proofs.LaneRows.{by_rows}
-use Rattle.board_model.proofs.DeedRuns.{count_taken}
 use Rattle.board_model.proofs.OrderDeeds.{RowDoes, RowHands, quiet_row, idle_row, handed_row, named_rows, messages_do, queues, both_none}
 use Rattle.board_model.proofs.OrderEnds.{Follows, mute_sender, far_follows, set_fits, set_same, item_same}
 use Rattle.board_model.proofs.OrderQueues.{messages_at, messages_none, queued_same}
 use Rattle.board_model.proofs.OrderRequests.{kept, turned, Settles, settles_nothing, settled_turns, ended_by}
 use Rattle.board_model.proofs.OrderSerials.{Differ}
 use Rattle.board_model.proofs.OrderSound.{Waits, Sound, is_mute, CameOn, Bound, FitsEnd, bound_empty, sound_change}
-use Rattle.board_model.proofs.OrderItems.{IsNext}
+use Rattle.board_model.proofs.OrderItems.{IsNext, LastIs}
 use Rattle.board_model.proofs.OrderTakings.{all_old, done_old, ended_old, waiter_takes}
 
 -- ---- what the conditions of rows say
@@ -86,13 +86,13 @@ pub waiter-no-message : (s : DomainState) (i : Item) → is_none i.channel ≡ f
 waiter-no-message s i none None = refl
 waiter-no-message s i none (Some r) = no-messages (Some r.serial) i none (asked_address s r.asked)
 
-module _ (before : List Deed) (s : DomainState) (sound : Sound s) (differ : Differ s.requests) (peer : ℕ) (name : Option ℕ) where
+module _ (before : List Deed) (s : DomainState) (sound : Sound s) (differ : Differ s.requests) (peer : ℕ) (name : Came) where
   -- after the frame is taken all that matters is as before
   abbrev now : DomainState
-  now = changed s (frame_taken peer)
+  now = changed s (taken_change peer name)
 
   now_sound : Sound now
-  now_sound = sound_change s sound (frame_taken peer) tt
+  now_sound = sound_change s sound (taken_change peer name) tt
 
   -- ---- a Connect
 
@@ -176,7 +176,7 @@ module _ (before : List Deed) (s : DomainState) (sound : Sound s) (differ : Diff
         here : Bool
         here = hears_from peer n c && (same_kind c.kind k && not c.far_closed)
 
-    ends_do : (named : name ≡ Some (count_taken peer before)) (l : PlainLetter) → RowDoes before s peer name (says source destination l) (first_row (channel_rows s peer destination e (Some c) (item_of peer name source l) l))
+    ends_do : (named : LastIs before peer name.names) (l : PlainLetter) → RowDoes before s peer name (says source destination l) (first_row (channel_rows s peer destination e (Some c) (item_of peer name source l) l))
     ends_do named (accept n) = by_rows (RowDoes before s peer name (says source destination (accept n))) (channel_rows s peer destination e (Some c) (item_of peer name source (accept n)) (accept n)) (
       (λ on. settled_row _ _ (Some (record c { stage = connected })) n is_accepted tt (refl, refl, λ m. mute_sender c (sender peer n c (and_parts (sends_to peer n c) (is_connecting c.stage) on).0)) (λ b. refl)),
       (λ off. idle_row before s sound differ peer name _ true fate.State (λ b. refl)),
@@ -201,11 +201,11 @@ module _ (before : List Deed) (s : DomainState) (sound : Sound s) (differ : Diff
       (λ on. ended_row _ _ (far_closed_end c) (far_follows c) (λ b. refl)),
       (λ off. idle_row before s sound differ peer name _ true fate.State (λ b. refl)),
     )
-    ends_do named (packet n content) = sent_rows (packet n content) kind.Packet n (item_of peer name source (packet n content)) (ap option_to_list named) refl refl (λ b. refl)
-    ends_do named (scalar n bits value) = sent_rows (scalar n bits value) kind.Scalar n (item_of peer name source (scalar n bits value)) (ap option_to_list named) refl refl (λ b. refl)
+    ends_do named (packet n content) = sent_rows (packet n content) kind.Packet n (item_of peer name source (packet n content)) named refl refl (λ b. refl)
+    ends_do named (scalar n bits value) = sent_rows (scalar n bits value) kind.Scalar n (item_of peer name source (scalar n bits value)) named refl refl (λ b. refl)
     ends_do named other = idle_row before s sound differ peer name _ true fate.State (λ b. both_none false)
 
-  letter_does : (named : name ≡ Some (count_taken peer before)) (source destination : ℕ) (l : PlainLetter) (o : Option Endpoint) → endpoint_of s destination ≡ o → RowDoes before s peer name (says source destination l) (first_row (letter_rows s peer name source destination o l))
+  letter_does : (named : LastIs before peer name.names) (source destination : ℕ) (l : PlainLetter) (o : Option Endpoint) → endpoint_of s destination ≡ o → RowDoes before s peer name (says source destination l) (first_row (letter_rows s peer name source destination o l))
   letter_does named source destination (msg priority content) o found = messages_do before s sound differ peer name source destination priority content named o found
   letter_does named source destination (connect n k) o found = connects_do source destination n k o found
   letter_does named source destination l None found = idle_row before s sound differ peer name (says source destination l) true fate.NoEndpoint (λ b. refl)
@@ -216,7 +216,8 @@ module _ (before : List Deed) (s : DomainState) (sound : Sound s) (differ : Diff
       at (Some c) is = ends_do source destination e found c is named l
 
   -- whatever the frame says
-  pub row_does : (named : name ≡ Some (count_taken peer before)) (rd : Reading) → RowDoes before s peer name rd (row_of s peer name rd)
+  pub row_does : (named : LastIs before peer name.names) (rd : Reading) → RowDoes before s peer name rd (row_of s peer name rd)
   row_does named (is_faulty f) = quiet_row before s sound differ peer name (is_faulty f) (row_of s peer name (is_faulty f)) tt refl (all_old s) (λ b. refl) (λ b. both_none (is_queued (row_of s peer name (is_faulty f)).word)) (kept [] (λ k. refl))
   row_does named (announces text address there) = named_rows before s sound differ peer name text (names_of (peer_at s peer)) (endpoint_named text) address there
+  row_does named (brings source destination q) = by_rows (RowDoes before s peer name (brings source destination q)) (row (is_none name.part) fate.Stray [] ∷ last_row fate.Part []) ((λ on. idle_row before s sound differ peer name (brings source destination q) _ fate.Stray (λ b. refl)), (λ off. idle_row before s sound differ peer name (brings source destination q) true fate.Part (λ b. refl)))
   row_does named (says source destination l) = letter_does named source destination l (endpoint_of s destination) refl

@@ -1,6 +1,7 @@
 -- What each deed does to the messages that are queued at each address, and which items are gone from it: one record for all deeds.
+use Rattle.board_model.specs.Parts.{Came}
 use Rattle.std.proofs.Common.{◌≡◌, ◌⊎◌, inl, inr, ℕ, ◌-◌, Bool, true, false, cond, List, [], ◌∷◌, ◌++◌, map, filter, find, flat_map, Option, Some, None, option_map, refl, sym, ap, ◌∙◌, subst, arith}
-use Rattle.std.specs.Prelude.{◌==◌, ◌&&◌, ◌||◌, is_none, option_and_then, option_to_list}
+use Rattle.std.specs.Prelude.{◌==◌, ◌&&◌, ◌||◌, is_none, option_and_then}
 use Rattle.std.specs.List.{AllByRecursion, list_any}
 use Rattle.std.proofs.lemmas.Bool.{eqb-true, eq-eqb, and_parts}
 use Rattle.std.proofs.lemmas.List.{append-nil}
@@ -11,18 +12,17 @@ use Rattle.mc_base.specs.declared.name.EndName.{EndName}
 use Rattle.mc_base.specs.declared.fate.Fate.{Fate}
 use Rattle.mc_base.specs.declared.fate.Fate.TheVariants.{Queued, Handed, NoEndpoint, OnChannel, Acted}
 use Rattle.board_model.specs.State.{Item, ChannelEnd, Endpoint, Asked, name_of, channel_of, message_at, packet_at, has_address, Request, DomainState, is_at, has_address_of, receives_at, live_at, endpoint_of, one_waits, oldest_waiting, waits_at}
-use Rattle.board_model.specs.Change.{item_queued, item_handed, name_found, names_known, frame_taken, handed_in, all_done, asks_for, changed, changed_all}
+use Rattle.board_model.specs.Change.{item_queued, item_handed, name_found, names_known, handed_in, all_done, asks_for, changed, changed_all}
 use Rattle.board_model.specs.TakenFrames.{Row, row, first_row, name_rows, message_rows, letter_rows, message_item}
-use Rattle.board_model.specs.Deeds.{Deed, looks_back, puts_owed, looks_ahead, happens_by, after_deed}
+use Rattle.board_model.specs.Deeds.{Deed, looks_back, puts_owed, looks_ahead, happens_by, after_deed, taken_change}
 use Rattle.board_model.specs.Takings.{Taking, taking, is_message_taking, takings_by, asked_address}
 use Rattle.mc_base.specs.declared.name.Local.{Local}
 use Rattle.board_model.specs.Choice.{best}
 use Rattle.board_model.specs.CallChanges.{at_live}
 use Rattle.board_model.specs.MessageOrder.{is_handed, comes_now, waiting_first, item_said, is_queued, came_to, items_at, dropped_from, gone_from}
 use Rattle.board_model.proofs.LaneRows.{by_rows}
-use Rattle.board_model.proofs.DeedRuns.{count_taken}
 use Rattle.board_model.proofs.MessageAlls.{all-filter}
-use Rattle.board_model.proofs.OrderItems.{IsPast, IsNext, left_of, left_none}
+use Rattle.board_model.proofs.OrderItems.{IsPast, IsNext, left_of, left_none, LastIs}
 use Rattle.board_model.proofs.OrderQueues.{messages_at, messages_of, messages_none, queued_for, queued_item}
 use Rattle.board_model.proofs.OrderRequests.{RequestsBy, kept, turned, handed, NoneBy, items_by, items_one, found_turns}
 use Rattle.board_model.proofs.OrderSerials.{Differ, Below, Serials, given_by_all, serials_changes}
@@ -36,7 +36,7 @@ Comes before d came gone = (came ≡ []) ⊎ ((i : Item) × (came ≡ i ∷ []) 
 -- a taking of the best that is queued; or, where nothing is, of the item that comes, by the oldest that waits
 pub record Hands (s : DomainState) (d : Deed) (t : Taking) : Type 0 where
   pub nothing_queued : queued_for s t.address ≡ []
-  pub comes : comes_now t.address d ≡ t.item ∷ []
+  pub comes : comes_now t.address s d ≡ t.item ∷ []
   pub waits : waiting_first s t.address ≡ t.request
 
 abbrev pub Takes : DomainState → Deed → Taking → Type 0
@@ -125,38 +125,38 @@ asked_there s l asked e waits find_it same = go asked waits
     go (channel_of n) waits = absurd cc
 
 -- what the item is that a frame queues
-abbrev pub queues : ℕ → ℕ → Option ℕ → Reading → Fate → List Item
+abbrev pub queues : ℕ → ℕ → Came → Reading → Fate → List Item
 queues b peer name rd word = cond (is_queued word) (item_said b peer name rd) []
 
 -- the state after the frame is taken, and then after its row
-abbrev pub after_row : DomainState → ℕ → Row → DomainState
-after_row s peer r = changed_all (changed s (frame_taken peer)) r.happens
+abbrev pub after_row : DomainState → ℕ → Came → Row → DomainState
+after_row s peer name r = changed_all (changed s (taken_change peer name)) r.happens
 
 -- by a frame that says so, with this word
-pub record RowHands (s : DomainState) (peer : ℕ) (name : Option ℕ) (rd : Reading) (word : Fate) (t : Taking) : Type 0 where
+pub record RowHands (s : DomainState) (peer : ℕ) (name : Came) (rd : Reading) (word : Fate) (t : Taking) : Type 0 where
   pub nothing_queued : queued_for s t.address ≡ []
   pub comes : cond (is_handed word) (item_said t.address peer name rd) [] ≡ t.item ∷ []
   pub waits : waiting_first s t.address ≡ t.request
 
-pub record RowDoes (before : List Deed) (s : DomainState) (peer : ℕ) (name : Option ℕ) (rd : Reading) (r : Row) : Type 0 where
-  pub fits : FitAllSound (changed s (frame_taken peer)) r.happens
+pub record RowDoes (before : List Deed) (s : DomainState) (peer : ℕ) (name : Came) (rd : Reading) (r : Row) : Type 0 where
+  pub fits : FitAllSound (changed s (taken_change peer name)) r.happens
   pub gives_none : given_by_all r.happens ≡ 0
   pub taken : List Taking
-  pub takings : taken_of s (after_row s peer r).requests ≡ taken
+  pub takings : taken_of s (after_row s peer name r).requests ≡ taken
   pub next : AllByRecursion (λ t. IsNext before t.item × (t.item.peer ≡ peer)) taken
-  pub queue : (b : ℕ) → queued_for (after_row s peer r) b ≡ queued_for s b ++ queues b peer name rd r.word
+  pub queue : (b : ℕ) → queued_for (after_row s peer name r) b ≡ queued_for s b ++ queues b peer name rd r.word
   pub comes : (b : ℕ) → (queues b peer name rd r.word ≡ []) ⊎ ((i : Item) × (queues b peer name rd r.word ≡ i ∷ []) × IsNext before i × (taken ≡ []) × (i.peer ≡ peer))
   pub hands : AllByRecursion (RowHands s peer name rd r.word) (filter is_message_taking taken)
-  pub requests : RequestsBy s (after_row s peer r).requests taken (after_row s peer r).requests_given
+  pub requests : RequestsBy s (after_row s peer name r).requests taken (after_row s peer name r).requests_given
 
-module _ (before : List Deed) (s : DomainState) (sound : Sound s) (differ : Differ s.requests) (peer : ℕ) (name : Option ℕ) where
-  pub quiet_row : (rd : Reading) (r : Row) → FitAllSound (changed s (frame_taken peer)) r.happens → given_by_all r.happens ≡ 0 → AllByRecursion (IsOld s) (after_row s peer r).requests → ((b : ℕ) → queued_for (after_row s peer r) b ≡ queued_for s b) → ((b : ℕ) → queues b peer name rd r.word ≡ []) →
-      RequestsBy s (after_row s peer r).requests [] (after_row s peer r).requests_given → RowDoes before s peer name rd r
+module _ (before : List Deed) (s : DomainState) (sound : Sound s) (differ : Differ s.requests) (peer : ℕ) (name : Came) where
+  pub quiet_row : (rd : Reading) (r : Row) → FitAllSound (changed s (taken_change peer name)) r.happens → given_by_all r.happens ≡ 0 → AllByRecursion (IsOld s) (after_row s peer name r).requests → ((b : ℕ) → queued_for (after_row s peer name r) b ≡ queued_for s b) → ((b : ℕ) → queues b peer name rd r.word ≡ []) →
+      RequestsBy s (after_row s peer name r).requests [] (after_row s peer name r).requests_given → RowDoes before s peer name rd r
   quiet_row rd r fits gives old same none requests = record {
     fits = fits;
     gives_none = gives;
     taken = [];
-    takings = none_taken s (after_row s peer r).requests old;
+    takings = none_taken s (after_row s peer name r).requests old;
     next = tt;
     queue = λ b. same b ∙ (sym (append-nil (queued_for s b)) ∙ ap (λ c. queued_for s b ++ c) (sym (none b)));
     comes = λ b. inl (none b);
@@ -170,8 +170,8 @@ module _ (before : List Deed) (s : DomainState) (sound : Sound s) (differ : Diff
 
   -- ---- announcements
 
-  name_row : (text : List ℕ) (address : ℕ) (there : Bool) (r : Row) → FitAllSound (changed s (frame_taken peer)) r.happens → given_by_all r.happens ≡ 0 → AllByRecursion (IsOld s) (after_row s peer r).requests → ((b : ℕ) → queued_for (after_row s peer r) b ≡ queued_for s b) →
-      RequestsBy s (after_row s peer r).requests [] (after_row s peer r).requests_given → RowDoes before s peer name (announces text address there) r
+  name_row : (text : List ℕ) (address : ℕ) (there : Bool) (r : Row) → FitAllSound (changed s (taken_change peer name)) r.happens → given_by_all r.happens ≡ 0 → AllByRecursion (IsOld s) (after_row s peer name r).requests → ((b : ℕ) → queued_for (after_row s peer name r) b ≡ queued_for s b) →
+      RequestsBy s (after_row s peer name r).requests [] (after_row s peer name r).requests_given → RowDoes before s peer name (announces text address there) r
   name_row text address there r fits gives old same requests = quiet_row (announces text address there) r fits gives old same (λ b. both_none (is_queued r.word)) requests
 
   abbrev learned_row : EndName → ℕ → Names → Row
@@ -228,12 +228,12 @@ module _ (before : List Deed) (s : DomainState) (sound : Sound s) (differ : Diff
 
   -- ---- messages
 
-  module _ (source destination priority : ℕ) (content : List ℕ) (named : name ≡ Some (count_taken peer before)) where
+  module _ (source destination priority : ℕ) (content : List ℕ) (named : LastIs before peer name.names) where
     abbrev item : Item
     item = message_item peer name source priority content
 
     item_next : IsNext before item
-    item_next = ap option_to_list named
+    item_next = named
 
     abbrev says_it : Reading
     says_it = says source destination (msg priority content)
@@ -265,7 +265,7 @@ module _ (before : List Deed) (s : DomainState) (sound : Sound s) (differ : Diff
       taken = [];
       takings = none_of s;
       next = tt;
-      queue = λ b. queued_item (changed s (frame_taken peer)) destination b item e found free ∙ shape b (destination == b);
+      queue = λ b. queued_item (changed s (taken_change peer name)) destination b item e found free ∙ shape b (destination == b);
       comes = λ b. one b (destination == b);
       hands = tt;
       requests = kept [] (λ k. refl);

@@ -1,4 +1,4 @@
--- Items of queues, each brought by one frame: which are the same, and what is left of a list where others are gone from it.
+-- Items of queues, each brought by frames of its own: which are the same, and what is left of a list where others are gone from it.
 use Rattle.std.proofs.Common.{◌≡◌, ℕ, ◌+◌, ◌<◌, Bool, true, false, not, cond, List, [], ◌∷◌, ◌++◌, filter, find, Some, refl, sym, ap, ◌∙◌, subst, arith}
 use Rattle.std.specs.Prelude.{◌==◌, ◌&&◌, ◌||◌}
 use Rattle.std.specs.List.{AllByRecursion, list_any}
@@ -11,15 +11,19 @@ use Rattle.board_model.specs.Deeds.{Deed}
 use Rattle.board_model.specs.MessageOrder.{is_same}
 use Rattle.board_model.proofs.DeedRuns.{taken_by, count_taken}
 
--- the item came before: its frame is among those taken
+-- the item came before: its last frame is among those taken
 pub record IsPast (before : List Deed) (i : Item) : Type 0 where
   pub name : ℕ
-  pub frame : i.frames ≡ name ∷ []
+  pub front : List ℕ
+  pub frame : i.frames ≡ front ++ name ∷ []
   pub past : name < count_taken i.peer before
 
 -- the next that is taken
+abbrev pub LastIs : List Deed → ℕ → List ℕ → Type 0
+LastIs before peer names = (front : List ℕ) × (names ≡ front ++ count_taken peer before ∷ [])
+
 abbrev pub IsNext : List Deed → Item → Type 0
-IsNext before i = i.frames ≡ count_taken i.peer before ∷ []
+IsNext before i = LastIs before i.peer i.frames
 
 pub taken_append : (p : ℕ) (xs : List Deed) (d : Deed) → count_taken p (xs ++ d ∷ []) ≡ count_taken p xs + taken_by p d
 taken_append p [] d = omega arith
@@ -28,7 +32,7 @@ taken_append p (x ∷ xs) d = omega (arith, taken_append p xs d)
 -- ---- items that came before, after one deed more
 
 pub past_more : (before : List Deed) (d : Deed) (i : Item) → IsPast before i → IsPast (before ++ d ∷ []) i
-past_more before d i past = record { name = past.name; frame = past.frame; past = omega (arith, past.past, taken_append i.peer before d) }
+past_more before d i past = record { name = past.name; front = past.front; frame = past.frame; past = omega (arith, past.past, taken_append i.peer before d) }
 
 pub all_past_more : (before : List Deed) (d : Deed) (is : List Item) → AllByRecursion (IsPast before) is → AllByRecursion (IsPast (before ++ d ∷ [])) is
 all_past_more before d [] all = tt
@@ -36,7 +40,7 @@ all_past_more before d (i ∷ is) all = (past_more before d i all.0, all_past_mo
 
 -- the next is past after the deed that takes it
 pub next_past_after : (before : List Deed) (d : Deed) (i : Item) → IsNext before i → taken_by i.peer d ≡ 1 → IsPast (before ++ d ∷ []) i
-next_past_after before d i next one = record { name = count_taken i.peer before; frame = next; past = omega (arith, one, taken_append i.peer before d) }
+next_past_after before d i next one = record { name = count_taken i.peer before; front = next.0; frame = next.1; past = omega (arith, one, taken_append i.peer before d) }
 
 -- ---- the same items
 
@@ -49,8 +53,20 @@ bytes_same xs = (bytes_eq-Decides xs xs).1 refl
 pub same_self : (i : Item) → is_same i i ≡ true
 same_self i = rw (eq-eqb i.peer i.peer refl) (bytes_same i.frames)
 
-head_is : (n m : ℕ) → n ∷ [] ≡ m ∷ [] → n ≡ m
-head_is n m e = cc
+-- the last of a list
+last_of : List ℕ → ℕ
+last_of [] = 0
+last_of (x ∷ []) = x
+last_of (x ∷ y ∷ ys) = last_of (y ∷ ys)
+
+last_append : (xs : List ℕ) (n : ℕ) → last_of (xs ++ n ∷ []) ≡ n
+unfolding last_of
+last_append [] n = refl
+last_append (x ∷ []) n = refl
+last_append (x ∷ y ∷ ys) n = last_append (y ∷ ys) n
+
+last_is : (xs ys : List ℕ) (n m : ℕ) → xs ++ n ∷ [] ≡ ys ++ m ∷ [] → n ≡ m
+last_is xs ys n m e = sym (last_append xs n) ∙ (ap last_of e ∙ last_append ys m)
 
 not_both : (a b : Bool) → (a ≡ true → b ≡ true → ⊥) → (a && b) ≡ false
 not_both true true no_both = absurd (no_both refl refl)
@@ -60,14 +76,14 @@ not_both false b no_both = refl
 pub past_next : (before : List Deed) (i j : Item) → IsPast before i → IsNext before j → is_same i j ≡ false
 past_next before i j past next = not_both (i.peer == j.peer) (bytes_eq i.frames j.frames) (λ peer frames.
     let same : i.peer ≡ j.peer = eqb-true i.peer j.peer peer in
-    let is : past.name ≡ count_taken j.peer before = head_is past.name (count_taken j.peer before) (sym past.frame ∙ (bytes_true i.frames j.frames frames ∙ next)) in
+    let is : past.name ≡ count_taken j.peer before = last_is past.front next.0 past.name (count_taken j.peer before) (sym past.frame ∙ (bytes_true i.frames j.frames frames ∙ next.1)) in
     let low : past.name < count_taken j.peer before = subst (λ p. past.name < count_taken p before) same past.past in
     omega arith)
 
 pub next_past : (before : List Deed) (i j : Item) → IsNext before i → IsPast before j → is_same i j ≡ false
 next_past before i j next past = not_both (i.peer == j.peer) (bytes_eq i.frames j.frames) (λ peer frames.
     let same : i.peer ≡ j.peer = eqb-true i.peer j.peer peer in
-    let is : past.name ≡ count_taken i.peer before = head_is past.name (count_taken i.peer before) (sym past.frame ∙ (sym (bytes_true i.frames j.frames frames) ∙ next)) in
+    let is : past.name ≡ count_taken i.peer before = last_is past.front next.0 past.name (count_taken i.peer before) (sym past.frame ∙ (sym (bytes_true i.frames j.frames frames) ∙ next.1)) in
     let low : past.name < count_taken i.peer before = subst (λ p. past.name < count_taken p before) (sym same) past.past in
     omega arith)
 

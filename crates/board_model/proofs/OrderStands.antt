@@ -1,6 +1,6 @@
 -- At every moment of a run the queue of each endpoint is what stands at its address: what came there and is not gone.
+use Rattle.board_model.specs.Parts.{Came, came_from}
 use Rattle.std.proofs.Common.{◌≡◌, inl, inr, ℕ, ◌+◌, ◌-◌, ◌<◌, ◌≤◌, ◌^◌, Bool, true, false, not, cond, List, [], ◌∷◌, ◌++◌, map, filter, refl, sym, ap, ap₂, ◌∙◌, subst, arith}
-use Rattle.std.specs.Prelude.{option_to_list}
 use Rattle.std.specs.List.{AllByRecursion, list_any}
 use Rattle.std.proofs.lemmas.Bool.{eq-eqb}
 use Rattle.std.proofs.lemmas.List.{append-nil, append_assoc}
@@ -11,7 +11,7 @@ use Rattle.board_model.specs.TakenFrames.{item_of}
 use Rattle.board_model.proofs.DeedRuns.{IsNamed, count_taken}
 use Rattle.board_model.proofs.LaneRows.{item-peer, item-frames}
 use Rattle.board_model.proofs.ItemsHeld.{held-weaker, BringsItems, deed-holds}
-use Rattle.board_model.proofs.OrderMoments.{Moment}
+use Rattle.board_model.proofs.OrderMoments.{Moment, named_last}
 use Rattle.board_model.proofs.OrderGiven.{takes_given, call_given}
 use Rattle.board_model.proofs.OrderCalls.{calls_does}
 use Rattle.board_model.proofs.OrderDeeds.{Does, Comes, looks_back_does, puts_owed_does, looks_ahead_does}
@@ -119,14 +119,16 @@ all_both P [] ys a b = b
 all_both P (x ∷ xs) ys a b = (a.0, all_both P xs ys a.1 b)
 
 -- each item that comes by a deed came before the next
-brings_past : (before : List Deed) (d : Deed) → IsNamed before d → BringsItems (IsPast (before ++ d ∷ [])) d
-brings_past before (takes peer name frame word) named = λ source l.
-    let from = item-peer peer name source l in
-    next_past_after before (takes peer name frame word) (item_of peer name source l) (item-frames peer name source l ∙ (ap option_to_list named ∙ ap (λ p. count_taken p before ∷ []) (sym from))) (ap (λ (b : Bool). cond b 1 0) (eq-eqb peer (item_of peer name source l).peer (sym from)))
-brings_past before (looks_back peer count) named = tt
-brings_past before (puts_owed peer frame) named = tt
-brings_past before (looks_ahead peer count) named = tt
-brings_past before (calls node call a) named = tt
+brings_past : (before : List Deed) (s : DomainState) (d : Deed) → IsNamed before d → BringsItems (IsPast (before ++ d ∷ [])) s d
+brings_past before s (takes peer name frame word) named = λ source l.
+    let c : Came = came_from s peer name frame in
+    let from = item-peer peer c source l in
+    let last = named_last before s peer name frame named in
+    next_past_after before (takes peer name frame word) (item_of peer c source l) (last.0, item-frames peer c source l ∙ (last.1 ∙ ap (λ p. last.0 ++ count_taken p before ∷ []) (sym from))) (ap (λ (b : Bool). cond b 1 0) (eq-eqb peer (item_of peer c source l).peer (sym from)))
+brings_past before s (looks_back peer count) named = tt
+brings_past before s (puts_owed peer frame) named = tt
+brings_past before s (looks_ahead peer count) named = tt
+brings_past before s (calls node call a) named = tt
 
 -- one deed more
 pub stands_more : (room : ℕ) (start : DomainState) (before : List Deed) (d : Deed) (less : ℕ) → IsNamed before d → given_by_all (happens_by (after_deeds start before) d) ≤ less → less ≤ room → (after_deeds start before).requests_given + 1 < 2 ^ 64 → AllByRecursion (IsDone (taken_for start (before ++ d ∷ [])) (after_deed (after_deeds start before) d).requests (after_deed (after_deeds start before) d).requests_given) (cancelled_by (after_deeds start before) d) → Stands room start before → Does room before (after_deeds start before) d → Stands (room - less) start (before ++ d ∷ [])
@@ -140,7 +142,7 @@ stands_more room start before d less named given fits small cancelled stands doe
         items = λ b. subst (AllByRecursion (IsPast (before ++ d ∷ []))) (sym (does.queue b))
             (all_append (IsPast (before ++ d ∷ [])) (left_of (gone_from b s d) (queued_for s b)) (came_to b s d) (all_filtered (IsPast (before ++ d ∷ [])) (λ i. not (list_any (is_same i) (gone_from b s d))) (queued_for s b) (all_past_more before d (queued_for s b) (stands.moment.items b))) (came_past before d (came_to b s d) (gone_from b s d) (does.comes b)));
         apart = λ b. subst Apart (sym (does.queue b)) (apart_came before d (gone_from b s d) (queued_for s b) (came_to b s d) (stands.moment.apart b) (stands.moment.items b) (does.comes b));
-        held = deed-holds (IsPast (before ++ d ∷ [])) s d (brings_past before d named) (held-weaker (IsPast before) (IsPast (before ++ d ∷ [])) (past_more before d) s stands.moment.held);
+        held = deed-holds (IsPast (before ++ d ∷ [])) s d (brings_past before s d named) (held-weaker (IsPast before) (IsPast (before ++ d ∷ [])) (past_more before d) s stands.moment.held);
       });
       gone = λ b. subst (AllByRecursion (IsPast (before ++ d ∷ []))) (sym (along_one (gone_from b) start before d)) (all_append (IsPast (before ++ d ∷ [])) (along (gone_from b) start before) (gone_from b s d) (all_past_more before d (along (gone_from b) start before) (stands.gone b)) (does.gone b));
       queues = λ b. ap (λ t. queued_for t b) after ∙ (does.queue b ∙ (ap (λ q. left_of (gone_from b s d) q ++ came_to b s d) (stands.queues b) ∙ sym (stood start before d b (stands.gone b) (does.comes b))));

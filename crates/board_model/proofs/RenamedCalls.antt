@@ -1,8 +1,9 @@
 -- What a call answers, puts and does in a state whose frames have other names is as in the state.
+use Rattle.mc_base.specs.Pieces.{frames_needed}
 use Rattle.std.proofs.Common.{◌≡◌, ℕ, ◌+◌, true, false, not, ◌||◌, cond, List, [], ◌∷◌, map, length, Option, Some, None, refl, sym, ap, ap₂, ◌∙◌, ◌&&◌, Bool}
-use Rattle.std.specs.Prelude.{nat_le, option_map, ◌==◌, is_some, unwrap_or, option_and_then}
+use Rattle.std.specs.Prelude.{nat_le, option_map, ◌==◌, is_some, unwrap_or, option_and_then, nat_lt, ◌||◌}
 use Rattle.std.proofs.lemmas.List.{length-map}
-use Rattle.mc_base.specs.Limits.{record_limit, request_limit}
+use Rattle.mc_base.specs.Limits.{record_limit, request_limit, item_size}
 use Rattle.mc_base.specs.Letter.{PlainLetter, msg, connect, packet, scalar}
 use Rattle.mc_base.specs.declared.name.Local.{Local}
 use Rattle.mc_base.specs.declared.name.EndName.{EndName}
@@ -10,15 +11,15 @@ use Rattle.mc_base.specs.declared.channel.Bits.{Bits}
 use Rattle.mc_base.specs.declared.channel.Side.{Side}
 use Rattle.mc_base.specs.declared.channel.Side.TheVariants.{Sender, Receiver}
 use Rattle.mc_base.specs.declared.refusal.Refusal.{Refusal}
-use Rattle.mc_base.specs.declared.refusal.Refusal.TheVariants.{ExistsAlready, EndpLimit, EndpInvalid, PeerInvalid, OnChannel, ChanConnected, EndpBusy, NotConnected, ChanDirection, ChanType, ChanClosed, AlreadyOpen, NotOpen, SclSize, BufInvalid, NoBuffer, Empty, RequestLimit, RequestInvalid, Pending, TooLate, Timeout, LinkInvalid}
-use Rattle.std.specs.List.{list_all, list_any}
+use Rattle.mc_base.specs.declared.refusal.Refusal.TheVariants.{ExistsAlready, EndpLimit, EndpInvalid, PeerInvalid, OnChannel, ChanConnected, EndpBusy, NotConnected, ChanDirection, ChanType, ChanClosed, AlreadyOpen, NotOpen, SclSize, BufInvalid, NoBuffer, Empty, RequestLimit, RequestInvalid, Pending, TooLate, Timeout, LinkInvalid, MsgSize, PktSize}
+use Rattle.std.specs.List.{list_all, list_any, flat_map}
 use Rattle.board_model.specs.State.{Item, ChannelEnd, Endpoint, Outcome, has_address, is_accepted, is_rejected, has_item, has_ended, Asked, name_of, channel_of, message_at, packet_at, Request, DomainState, is_at, live_at, endpoint_at, address_at, channel_in, queue_in, queue_at, request_at_place, packet_at_place, peer_of}
 use Rattle.board_model.specs.Renamed.{renamed, renamed_end, renamed_item, renamed_outcome, renamed_packet, renamed_request}
 use Rattle.board_model.specs.Choice.{best, oldest}
 use Rattle.board_model.specs.DomainCall.{DomainCall, create_at, delete_at, lookup_of, send_from, receive_at, request_at, available_at, connect_from, open_at, packet_from, lend_at, packet_request_at, release_of, scalar_from, scalar_at, close_at, test_of, wait_for, cancel_of, raw_to, turn_alone}
 use Rattle.board_model.specs.Journal.{tells, completes}
-use Rattle.board_model.specs.Answer.{first_complete, local, here, known_address, address_of, has_channel, named, end_call, holds_at_end, channel_at, post, put_of, over_channel, over_end, opening_letter, closing_letter, request_named, is_complete, packet_named, is_of_other_size, success_posts, success_puts, lacks_buffers, holds, words_of, refusal, lent_whole, value_of, given, result_by, result_of, success, answer_by, answer, unless_refused, puts, is_complete_at, stands_at, lacks_request, lacks_complete, lacks_lane, place_said}
-use Rattle.board_model.specs.Change.{Change, endpoint_gone, best_gone, oldest_gone, channel_set, request_added, waiting_ended, request_gone, end_announced, buffer_used, channel_given}
+use Rattle.board_model.specs.Answer.{first_complete, local, here, known_address, address_of, has_channel, named, end_call, holds_at_end, channel_at, post, puts_of, over_channel, over_end, opening_letter, closing_letter, request_named, is_complete, packet_named, is_of_other_size, success_posts, success_puts, lacks_buffers, holds, words_of, refusal, lent_whole, value_of, given, result_by, result_of, success, answer_by, answer, unless_refused, puts, is_complete_at, stands_at, lacks_request, lacks_complete, lacks_lane, place_said, content_size}
+use Rattle.board_model.specs.Change.{Change, endpoint_gone, best_gone, oldest_gone, channel_set, request_added, waiting_ended, request_gone, end_announced, buffers_used, channel_given}
 use Rattle.board_model.specs.ChannelEnds.{connecting_end, opened_end}
 use Rattle.board_model.specs.CallChanges.{at_live, at_channel, at_end, new_sender, closing, lending, lent_by, lent_by_test, best_item, success_changes, call_changes, tested}
 use Rattle.board_model.proofs.MessageLists.{get-position}
@@ -28,7 +29,7 @@ use Rattle.board_model.proofs.RenamedChanges.{live-renamed, place-renamed, one_w
 pub at-live : (s : DomainState) (at : Local) → endpoint_at s at ≡ live_at s at
 at-live s at = get-position (is_at at) s.endpoints
 
-module _ (names : ℕ → List ℕ → List ℕ) where
+module _ (names : ℕ → ℕ → ℕ) where
   -- ---- endpoints
 
   end_renamed : (s : DomainState) (at : Local) → endpoint_at (renamed names s) at ≡ option_map (renamed_end names) (endpoint_at s at)
@@ -156,7 +157,7 @@ module _ (names : ℕ → List ℕ → List ℕ) where
 
   success_puts_renamed : (s : DomainState) (node : ℕ) (call : DomainCall) → success_puts (renamed names s) node call ≡ success_puts s node call
   success_puts_renamed s node (raw_to to bytes) = refl
-  success_puts_renamed s node other = ap (map put_of) (posts-renamed s node other)
+  success_puts_renamed s node other = ap (flat_map puts_of) (posts-renamed s node other)
 
   lacks_renamed : (s : DomainState) (ps : List (ℕ × List ℕ)) → lacks_buffers (renamed names s) ps ≡ lacks_buffers s ps
   lacks_renamed s [] = refl
@@ -329,16 +330,16 @@ module _ (names : ℕ → List ℕ → List ℕ) where
         (λ e. ap (λ o. best_gone e.address ∷ request_added (message_at e.local max) o ∷ []) (item_renamed (best_item e) ∙ ap (option_map has_item) (sym (best-renamed e.queue)))) (local node port)
     changes_renamed (available_at port) = refl
     changes_renamed (connect_from port to kind) =
-        at_renamed (λ e. buffer_used to.domain ∷ channel_set e.address (Some (new_sender s to kind)) ∷ request_added (channel_of (s.channels_given + 1)) None ∷ channel_given ∷ []) (λ e. refl) (local node port)
-        ∙ ap (λ (a : Option ℕ). at_live (live_at (renamed names s) (local node port)) (λ e. buffer_used to.domain ∷ channel_set e.address (Some (connecting_end kind s.number (s.channels_given + 1) to.domain (unwrap_or a 0))) ∷ request_added (channel_of (s.channels_given + 1)) None ∷ channel_given ∷ [])) (sym (address_of_renamed s to))
-    changes_renamed (open_at port side kind) = end_renamed_at (λ e c. buffer_used c.peer ∷ channel_set e.address (Some (opened_end c)) ∷ []) (λ e c. refl) (local node port)
-    changes_renamed (packet_from port bytes) = end_renamed_at (λ e c. buffer_used c.peer ∷ []) (λ e c. refl) (local node port)
+        at_renamed (λ e. buffers_used to.domain 1 ∷ channel_set e.address (Some (new_sender s to kind)) ∷ request_added (channel_of (s.channels_given + 1)) None ∷ channel_given ∷ []) (λ e. refl) (local node port)
+        ∙ ap (λ (a : Option ℕ). at_live (live_at (renamed names s) (local node port)) (λ e. buffers_used to.domain 1 ∷ channel_set e.address (Some (connecting_end kind s.number (s.channels_given + 1) to.domain (unwrap_or a 0))) ∷ request_added (channel_of (s.channels_given + 1)) None ∷ channel_given ∷ [])) (sym (address_of_renamed s to))
+    changes_renamed (open_at port side kind) = end_renamed_at (λ e c. buffers_used c.peer 1 ∷ channel_set e.address (Some (opened_end c)) ∷ []) (λ e c. refl) (local node port)
+    changes_renamed (packet_from port bytes) = end_renamed_at (λ e c. buffers_used c.peer (frames_needed (packet c.number bytes)) ∷ []) (λ e c. refl) (local node port)
     changes_renamed (lend_at port) = at_renamed (λ e. oldest_gone e.address ∷ lending (oldest e.queue)) (λ e. lending_renamed e.address e.queue) (local node port)
     changes_renamed (packet_request_at port) =
         at_renamed (λ e. oldest_gone e.address ∷ request_added (packet_at e.local) (option_map has_item (oldest e.queue)) ∷ [])
         (λ e. ap (λ o. oldest_gone e.address ∷ request_added (packet_at e.local) o ∷ []) (item_renamed (oldest e.queue) ∙ ap (option_map has_item) (sym (oldest-renamed e.queue)))) (local node port)
     changes_renamed (release_of place) = refl
-    changes_renamed (scalar_from port bits value) = end_renamed_at (λ e c. buffer_used c.peer ∷ []) (λ e c. refl) (local node port)
+    changes_renamed (scalar_from port bits value) = end_renamed_at (λ e c. buffers_used c.peer 1 ∷ []) (λ e c. refl) (local node port)
     changes_renamed (scalar_at port bits) = at_renamed (λ e. oldest_gone e.address ∷ []) (λ e. refl) (local node port)
     changes_renamed (close_at port side) = end_renamed_at (closing side) (closing_renamed side) (local node port)
     changes_renamed (test_of request) = told_renamed request

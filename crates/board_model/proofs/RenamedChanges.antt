@@ -1,17 +1,17 @@
 -- A state whose frames have other names: what is looked up in it, and how it changes.
-use Rattle.std.proofs.Common.{◌≡◌, ℕ, Bool, true, false, not, ◌&&◌, cond, List, [], ◌∷◌, ◌++◌, map, drop, Option, Some, None, refl, sym, ap, ◌∙◌}
+use Rattle.std.proofs.Common.{◌≡◌, ℕ, Bool, true, false, not, ◌&&◌, cond, List, [], ◌∷◌, ◌++◌, map, drop, Option, Some, None, refl, sym, ap, ◌∙◌, ap₂, filter}
 use Rattle.std.specs.Prelude.{option_map, is_none}
 use Rattle.std.proofs.lemmas.List.{map-append}
 use Rattle.std.proofs.lemmas.Simd.{map-map}
 use Rattle.mc_base.specs.declared.name.Local.{Local}
 use Rattle.mc_base.specs.declared.refusal.Refusal.{Refusal}
-use Rattle.board_model.specs.State.{Item, Endpoint, Asked, Outcome, has_address, has_item, has_ended, Request, DomainState, is_at, has_address_of, live_at, endpoint_of, place_at, receives_at, waits_at, one_waits}
-use Rattle.board_model.specs.Renamed.{renamed, renamed_end, renamed_item, renamed_outcome, renamed_packet, renamed_request}
+use Rattle.board_model.specs.State.{Item, Endpoint, Asked, Outcome, has_address, has_item, has_ended, Request, DomainState, is_at, has_address_of, live_at, endpoint_of, place_at, receives_at, waits_at, one_waits, holds_from}
+use Rattle.board_model.specs.Renamed.{renamed, renamed_end, renamed_item, renamed_outcome, renamed_packet, renamed_request, renamed_held}
 use Rattle.board_model.specs.Choice.{without_best}
-use Rattle.board_model.specs.Change.{Change, endpoint_made, endpoint_gone, item_queued, best_gone, oldest_gone, item_lost, channel_set, queue_dropped, request_added, item_handed, waiting_ended, name_found, connect_settled, request_gone, end_announced, reply_owed, owed_put, buffers_back, frames_shown, frame_taken, names_known, buffer_used, packet_lent, packet_gone, channel_given, endpoint_with, with_queue, with_channel, without_queue, asks_for, connects_on, done_with, all_done, handed_in, ended_in, changed, changed_all}
+use Rattle.board_model.specs.Change.{Change, endpoint_made, endpoint_gone, item_queued, best_gone, oldest_gone, item_lost, channel_set, queue_dropped, request_added, item_handed, waiting_ended, name_found, connect_settled, request_gone, end_announced, reply_owed, owed_put, buffers_back, frames_shown, frame_taken, names_known, buffers_used, packet_lent, packet_gone, channel_given, endpoint_with, with_queue, with_channel, without_queue, asks_for, connects_on, done_with, all_done, handed_in, ended_in, changed, changed_all, held_as}
 use Rattle.board_model.proofs.ListsMapped.{is_none-map, find-mapped, position-mapped, filter-mapped, any-mapped, changed_first-mapped, without-mapped, map-alike, without_best-mapped}
 
-module _ (names : ℕ → List ℕ → List ℕ) where
+module _ (names : ℕ → ℕ → ℕ) where
   -- ---- what is looked up
 
   pub live-renamed : (s : DomainState) (at : Local) → live_at (renamed names s) at ≡ option_map (renamed_end names) (live_at s at)
@@ -38,6 +38,7 @@ module _ (names : ℕ → List ℕ → List ℕ) where
   renamed_change (connect_settled n o) = connect_settled n (renamed_outcome names o)
   renamed_change (item_lost a i) = item_lost a (renamed_item names i)
   renamed_change (packet_lent i) = packet_lent (renamed_item names i)
+  renamed_change (frame_taken n part held) = frame_taken n part (map (names n) held)
   renamed_change other = other
 
   -- ---- endpoints
@@ -88,6 +89,10 @@ module _ (names : ℕ → List ℕ → List ℕ) where
       ∙ (map-alike (λ r. renamed_request names (all_done asks o r)) (λ r. all_done asks (renamed_outcome names o) (renamed_request names r)) (done_one asks o) rs
       ∙ sym (map-map (all_done asks (renamed_outcome names o)) (renamed_request names) rs))
 
+  same_held : (n : ℕ) (held : List ℕ) → map (renamed_held names) (map (held_as n) held) ≡ map (held_as n) (map (names n) held)
+  same_held n [] = refl
+  same_held n (k ∷ ks) = ap (λ hs. held_as n (names n k) ∷ hs) (same_held n ks)
+
   -- ---- a change
 
   module _ (s : DomainState) where
@@ -126,9 +131,12 @@ module _ (names : ℕ → List ℕ → List ℕ) where
     renamed-changed (owed_put n) = refl
     renamed-changed (buffers_back n count) = refl
     renamed-changed (frames_shown n count) = refl
-    renamed-changed (frame_taken n) = refl
-    renamed-changed (names_known n names) = refl
-    renamed-changed (buffer_used n) = refl
+    renamed-changed (frame_taken n part held) =
+        ap (λ hs. record (changed (renamed names s) (frame_taken n part (map (names n) held))) { held = hs })
+        (map-append (renamed_held names) (filter (λ h. not (holds_from n h)) s.held) (map (held_as n) held)
+        ∙ ap₂ (λ xs ys. xs ++ ys) (sym (filter-mapped (renamed_held names) (λ h. not (holds_from n h)) (λ h. not (holds_from n h)) (λ h. refl) s.held)) (same_held n held))
+    renamed-changed (names_known n known) = refl
+    renamed-changed (buffers_used n count) = refl
     renamed-changed (packet_lent i) =
         ap (λ ps. record (changed (renamed names s) (packet_lent (renamed_item names i))) { lent = ps }) (map-append (renamed_packet names) s.lent (record { serial = s.packets_lent; item = i } ∷ []))
     renamed-changed (packet_gone place) = ap (λ ps. record (changed (renamed names s) (packet_gone place)) { lent = ps }) (sym (without-mapped (renamed_packet names) place s.lent))

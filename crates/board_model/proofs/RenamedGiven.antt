@@ -13,7 +13,7 @@ use Rattle.board_model.specs.CallChanges.{at_live, best_item, item_lent, message
 use Rattle.board_model.proofs.RenamedChanges.{live-renamed}
 use Rattle.board_model.proofs.RenamedCalls.{best-renamed, first-renamed, packet-renamed, refusal-renamed, request-renamed, oldest-renamed}
 
-module _ (names : ℕ → List ℕ → List ℕ) where
+module _ (names : ℕ → ℕ → ℕ) where
   live_renamed : (t : DomainState) (at : Local) (f : Endpoint → List Item) → ((e : Endpoint) → f (renamed_end names e) ≡ map (renamed_item names) (f e)) → at_live (live_at (renamed names t) at) f ≡ map (renamed_item names) (at_live (live_at t at) f)
   live_renamed t at f same = ap (λ o. at_live o f) (live-renamed names t at) ∙ go (live_at t at)
     where

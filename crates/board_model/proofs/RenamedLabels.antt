@@ -1,5 +1,5 @@
 -- The packet that a call lends is the same in a state whose frames have other names.
-use Rattle.std.proofs.Common.{◌≡◌, ℕ, List, Option, Some, None, refl, ap, ap₂, ◌∙◌}
+use Rattle.std.proofs.Common.{◌≡◌, ℕ, Option, Some, None, refl, ap, ap₂, ◌∙◌}
 use Rattle.std.specs.Prelude.{option_map}
 use Rattle.board_model.specs.Answer.{first_complete, unless_refused}
 use Rattle.board_model.specs.DomainCall.{DomainCall, lend_at, test_of, wait_for}
@@ -8,7 +8,7 @@ use Rattle.board_model.specs.Renamed.{renamed, renamed_outcome, renamed_request}
 use Rattle.board_model.specs.State.{Asked, DomainState, Outcome, Request, channel_of, has_address, has_ended, has_item, is_accepted, is_rejected, message_at, name_of, packet_at, request_at_place}
 use Rattle.board_model.proofs.RenamedCalls.{first-renamed, refusal-renamed, request-renamed}
 
-module _ (names : ℕ → List ℕ → List ℕ) (s : DomainState) where
+module _ (names : ℕ → ℕ → ℕ) (s : DomainState) where
   tested_renamed : (o : Option Request) → packet_tested (renamed names s) (option_map (renamed_request names) o) ≡ packet_tested s o
   tested_renamed None = refl
   tested_renamed (Some r) = go r.asked r.outcome

@@ -7,7 +7,7 @@ use Rattle.mc_base.specs.Limits.{first_address}
 use Rattle.mc_base.specs.FullName.{end_name, endpoint_named}
 use Rattle.mc_base.specs.NameMap.{Names, rank, has_name, learned, address_in}
 use Rattle.mc_base.specs.Letter.{PlainLetter, accept, reject, send_close}
-use Rattle.mc_base.specs.Reading.{Reading, is_faulty, announces, says, reading}
+use Rattle.mc_base.specs.Reading.{Reading, is_faulty, announces, says, brings}
 use Rattle.mc_base.specs.declared.channel.Side.{Side}
 use Rattle.mc_base.specs.declared.channel.Side.TheVariants.{Sender, Receiver}
 use Rattle.mc_base.specs.declared.name.EndName.{EndName}
@@ -18,14 +18,15 @@ use Rattle.board_model.specs.Journal.{PlainResult, was_accepted, was_rejected, P
 use Rattle.board_model.specs.State.{connected, Item, ChannelEnd, Endpoint, name_of, has_address, Peer, DomainState, is_at, is_numbered, live_at, endpoint_at, endpoint_of, peer_at, peer_of, channel_in, request_at_place}
 use Rattle.board_model.specs.ChannelEnds.{sends_to, is_connecting, EndRow, end_row, left_row, end_row_of}
 use Rattle.board_model.specs.Change.{Change, item_queued, item_handed, item_lost, packet_lent}
-use Rattle.board_model.specs.TakenFrames.{names_of, name_rows, first_row, rejecting, accepting, acting, item_of, row_of}
+use Rattle.board_model.specs.Parts.{Came, came_from, said_from}
+use Rattle.board_model.specs.TakenFrames.{names_of, name_rows, first_row, rejecting, accepting, acting, item_of, rows, row_of}
 use Rattle.board_model.specs.Answer.{first_complete, local, known_address, address_of, refusal, success, answer_by, unless_refused}
 use Rattle.board_model.specs.CallChanges.{closing, lending, lent_by_test, success_changes}
 use Rattle.board_model.specs.Deeds.{Deed, looks_back, puts_owed, looks_ahead, takes, calls, happens_by, after_deed, MayDo}
 use Rattle.board_model.specs.Replied.{announced_by, announced_in, addresses_said, sends_there, replied_in, replies_said}
 use Rattle.board_model.proofs.MessageAlls.{all-filter, all-found, found-passes}
 use Rattle.board_model.proofs.MessageLists.{get-position}
-use Rattle.board_model.proofs.LaneRows.{Deals, stays, learns, forgets, hands, queues, loses, rejects, accepts, acts, by_rows, row-deals}
+use Rattle.board_model.proofs.LaneRows.{Deals, stays, strays, awaits, learns, forgets, hands, queues, loses, rejects, accepts, acts, by_rows, row-deals}
 use Rattle.board_model.proofs.StateEnds.{end-holds, tested-are}
 use Rattle.board_model.proofs.HonestDeeds.{live_holds}
 use Rattle.board_model.proofs.OrderLookups.{not_not}
@@ -94,7 +95,7 @@ module _ (named : ℕ → ℕ → Type 0) (replied : ℕ → PlainResult → Typ
       acts_fit t left (send_close number) row heard = (tt, (tt, tt))
       acts_fit t left other row heard = (tt, tt)
 
-    letter_fits : (t : DomainState) (q : ℕ) (name : Option ℕ) (source at : ℕ) (l : PlainLetter) → ((k : ℕ) (r : PlainResult) → Contains (replied_in k s q (says source at l)) r → replied k r) → FitAll named replied t (row_of s q name (says source at l)).happens
+    letter_fits : (t : DomainState) (q : ℕ) (name : Came) (source at : ℕ) (l : PlainLetter) → ((k : ℕ) (r : PlainResult) → Contains (replied_in k s q (says source at l)) r → replied k r) → FitAll named replied t (row_of s q name (says source at l)).happens
     letter_fits t q name source at l heard = go (row-deals s q name (says source at l))
       where
         by : (cs : List Change) → (row_of s q name (says source at l)).happens ≡ cs → FitAll named replied t cs → FitAll named replied t (row_of s q name (says source at l)).happens
@@ -105,6 +106,8 @@ module _ (named : ℕ → ℕ → Type 0) (replied : ℕ → PlainResult → Typ
 
         go : Deals s q name (says source at l) (row_of s q name (says source at l)) → FitAll named replied t (row_of s q name (says source at l)).happens
         go (stays happens word) = by [] happens tt
+        go (strays from to piece is none happens word) = by [] happens tt
+        go (awaits from to piece is some happens word) = by [] happens tt
         go (learns text n a names is learned_so happens word) = absurd cc
         go (forgets text n a names is forgotten_so happens word) = absurd cc
         go (hands from to m e is found carried waits happens word) = by (item_handed to (item_of q name from m) ∷ []) happens (tt, tt)
@@ -114,7 +117,7 @@ module _ (named : ℕ → ℕ → Type 0) (replied : ℕ → PlainResult → Typ
         go (accepts from to number kind e is found free idle happens word) = by (accepting q from to number kind) happens (tt, (tt, tt))
         go (acts from to m e c left is found has row happens word) = by (acting to left m) happens (acted from to m is e c left found has row)
 
-    frame_fits : (t : DomainState) (q : ℕ) (name : Option ℕ) (r : Reading) → ((n a : ℕ) → Contains (announced_in n q r) a → named n a) → ((k : ℕ) (x : PlainResult) → Contains (replied_in k s q r) x → replied k x) → FitAll named replied t (row_of s q name r).happens
+    frame_fits : (t : DomainState) (q : ℕ) (name : Came) (r : Reading) → ((n a : ℕ) → Contains (announced_in n q r) a → named n a) → ((k : ℕ) (x : PlainResult) → Contains (replied_in k s q r) x → replied k x) → FitAll named replied t (row_of s q name r).happens
     frame_fits t q name (is_faulty f) announced heard = tt
     frame_fits t q name (announces text a there) announced heard = names_fit t q text (endpoint_named text) a there by
       where
@@ -123,6 +126,7 @@ module _ (named : ℕ → ℕ → Type 0) (replied : ℕ → PlainResult → Typ
             (subst (λ b. Contains (announced_in (rank n) q (announces text a b)) a) (sym shown)
             (subst (λ o. Contains (announced_by (rank n) q a o) a) (sym is) (there_if (n.domain == q && (rank n == rank n)) a (both_true (n.domain == q) (rank n == rank n) own (eq-eqb (rank n) (rank n) refl)))))
     frame_fits t q name (says source at l) announced heard = letter_fits t q name source at l heard
+    frame_fits t q name (brings source at piece) announced heard = by_rows (λ r. FitAll named replied t r.happens) (rows s q name (brings source at piece)) ((λ stray. tt), (λ held. tt))
 
     -- ---- a call
 
@@ -202,7 +206,7 @@ module _ (named : ℕ → ℕ → Type 0) (replied : ℕ → PlainResult → Typ
     deed_fits (looks_back q n) may heard replies = (tt, tt)
     deed_fits (puts_owed q frame) may heard replies = (tt, tt)
     deed_fits (looks_ahead q n) may heard replies = (tt, tt)
-    deed_fits (takes q name frame word) may heard replies = (tt, frame_fits _ q name (reading frame) heard replies)
+    deed_fits (takes q name frame word) may heard replies = (tt, frame_fits _ q (came_from s q name frame) (said_from s q frame) heard replies)
     deed_fits (calls node call a) may heard replies = call_fits node call a (refusal s node call) may heard
 
     pub said_deed : (d : Deed) → MayDo s d → ((n x : ℕ) → Contains (addresses_said n s d) x → named n x) → ((k : ℕ) (r : PlainResult) → Contains (replies_said k s d) r → replied k r) → Said named replied (after_deed s d)

@@ -12,7 +12,7 @@ use Rattle.mc_base.specs.declared.refusal.Refusal.{Refusal}
 use Rattle.board_model.specs.Journal.{PlainResult, was_accepted, was_rejected}
 use Rattle.board_model.specs.Choice.{without_best}
 use Rattle.board_model.specs.State.{Item, Endpoint, Asked, name_of, channel_of, message_at, packet_at, Outcome, has_address, is_accepted, is_rejected, has_item, has_ended, Announcement, Request, Peer, DomainState, has_address_of, endpoint_of, waits_at, is_numbered}
-use Rattle.board_model.specs.Change.{Change, endpoint_made, endpoint_gone, item_queued, best_gone, oldest_gone, channel_set, queue_dropped, request_added, item_handed, waiting_ended, name_found, connect_settled, request_gone, end_announced, reply_owed, owed_put, buffers_back, frames_shown, frame_taken, names_known, buffer_used, endpoint_with, with_queue, with_channel, without_queue, done_with, same_name, asks_for, connects_on, all_done, handed_in, ended_in, at_peer, also_owed, first_put, endpoints_after, requests_after, peers_after, changed, changed_all}
+use Rattle.board_model.specs.Change.{Change, endpoint_made, endpoint_gone, item_queued, best_gone, oldest_gone, channel_set, queue_dropped, request_added, item_handed, waiting_ended, name_found, connect_settled, request_gone, end_announced, reply_owed, owed_put, buffers_back, frames_shown, frame_taken, names_known, buffers_used, endpoint_with, with_queue, with_channel, without_queue, done_with, same_name, asks_for, connects_on, all_done, handed_in, ended_in, at_peer, also_owed, first_put, endpoints_after, requests_after, peers_after, changed, changed_all}
 use Rattle.board_model.proofs.ListsApart.{all-map}
 use Rattle.board_model.proofs.MessageAlls.{all-append, all-changed-first, all-filter, all-weaken, all-without}
 
@@ -121,9 +121,9 @@ module _ (named : ℕ → ℕ → Type 0) (replied : ℕ → PlainResult → Typ
     names_kept (owed_put q) fits = peer_kept q first_put put_kept
     names_kept (buffers_back q n) fits = peer_kept q (λ p. record p { free = p.free + n }) (λ p is. is)
     names_kept (frames_shown q n) fits = peer_kept q (λ p. record p { shown = n }) (λ p is. is)
-    names_kept (frame_taken q) fits = peer_kept q (λ p. record p { shown = p.shown - 1 }) (λ p is. is)
+    names_kept (frame_taken q part held) fits = peer_kept q (λ p. record p { shown = p.shown - 1; part = part }) (λ p is. is)
     names_kept (names_known q ks) fits = peer_kept q (λ p. record p { known = ks }) (λ p is. fits)
-    names_kept (buffer_used q) fits = peer_kept q (λ p. record p { free = p.free - 1 }) (λ p is. is)
+    names_kept (buffers_used q n) fits = peer_kept q (λ p. record p { free = p.free - n }) (λ p is. is)
     names_kept other fits = said.names
 
     handed_kept : (o : Option Endpoint) (i : Item) → AllByRecursion IsSettled (handed_in o i s.requests)

@@ -13,12 +13,12 @@ use Rattle.board_model.specs.Traffic.{put_to, taken_from, given}
 use Rattle.board_model.specs.Board.{DomainJournal}
 use Rattle.board_model.specs.Deeds.{Deed, after_deeds, along}
 use Rattle.board_model.specs.JournalDeeds.{entry_deeds, deeds_along, deeds_of, opened}
-use Rattle.board_model.specs.Given.{names_given}
+use Rattle.board_model.specs.Returns.{names_given}
 use Rattle.board_model.specs.Unnamed.{unnamed}
 use Rattle.board_model.proofs.DeedRuns.{IsDeedRun, puts_by, takes_by}
 use Rattle.board_model.proofs.RunDeeds.{AllAllowed, allowed-all, opened-differ, run-leads, run-named, run-puts, pending}
 use Rattle.board_model.proofs.DeedTraffic.{run-takes}
-use Rattle.board_model.proofs.DeedGiven.{opened-held, run-given}
+use Rattle.board_model.proofs.DeedGiven.{run-given}
 
 -- ---- entries that are joined
 
@@ -60,5 +60,5 @@ front s j board run xs ys split =
       state = sym leads.leads;
       puts = λ peer. run-puts lines peer [] (start s j.line) (opened s j) xs refl allowed;
       takes = λ peer. sym (run-takes peer lines [] (start s j.line) xs);
-      gives = λ peer. run-given peer lines [] (start s j.line) (opened s j) xs refl (opened-held s j) allowed;
+      gives = λ peer. run-given peer lines [] (start s j.line) (opened s j) xs refl allowed;
     }

@@ -1,11 +1,15 @@
 -- What calls do to the sender's end of a channel, and the letters that they put on its lane.
-use Rattle.std.proofs.Common.{◌≡◌, ℕ, ◌+◌, ◌≤◌, Bool, true, false, not, cond, inl, inr, List, [], ◌∷◌, ◌++◌, map, Option, Some, None, option_map, unwrap_or, refl, sym, ap, ◌∙◌, subst, arith}
+use Rattle.board_model.proofs.PartPuts.{one_post}
+use Rattle.board_model.proofs.PartLetters.{FramesSaid, letter_frames, said-once}
+use Rattle.board_model.specs.Parts.{Came}
+use Rattle.mc_base.specs.Pieces.{frames_needed}
+use Rattle.std.proofs.Common.{◌≡◌, ℕ, ◌+◌, ◌≤◌, Bool, true, false, not, cond, inl, inr, List, [], ◌∷◌, ◌++◌, Option, Some, None, option_map, unwrap_or, refl, sym, ap, ◌∙◌, subst, arith}
 use Rattle.std.specs.Prelude.{◌==◌, ◌&&◌, is_some}
-use Rattle.std.specs.List.{AllByRecursion}
+use Rattle.std.specs.List.{AllByRecursion, flat_map}
 use Rattle.std.proofs.lemmas.Bool.{eqb-true, eqb-false, eq-eqb, cases_Bool, cond_both}
 use Rattle.std.proofs.lemmas.List.{append-nil}
-use Rattle.mc_base.specs.Letter.{PlainLetter, connect, recv_open, send_open, packet, scalar, send_close, recv_close}
-use Rattle.mc_base.specs.Reading.{says, reading}
+use Rattle.mc_base.specs.Letter.{PlainLetter, connect, recv_open, send_open, packet, scalar, send_close, recv_close, msg}
+use Rattle.mc_base.specs.Reading.{says}
 use Rattle.mc_base.specs.declared.channel.Kind.{Kind}
 use Rattle.mc_base.specs.declared.channel.Kind.TheVariants.{Packet, Scalar}
 use Rattle.mc_base.specs.declared.channel.Side.{Side}
@@ -22,9 +26,9 @@ use Rattle.board_model.proofs.MessageLists.{get-position}
 use Rattle.board_model.proofs.Sending.{sent_of, sent, Accepted, Outgoing, SentAt, NoneSends, Sending, fresh, numbered, Alters, same, FitAllOut, sending_changes}
 use Rattle.board_model.proofs.SendingFrames.{turned_to, gone_from}
 use Rattle.board_model.proofs.ChannelWords.{is_sender, Way, not_begun, goes_to, is_over, Sent, sent_by, letter_on, letters, contents, Follows, way_after, InOrder, way_of}
-use Rattle.board_model.specs.Answer.{first_complete, Post, post, put_of, local, channel_at, has_channel, over_channel, success_posts, success_puts, holds, words_of, refusal, unless_refused, address_of}
+use Rattle.board_model.specs.Answer.{first_complete, Post, post, puts_of, local, channel_at, has_channel, over_channel, success_posts, success_puts, holds, words_of, refusal, unless_refused, address_of}
 use Rattle.board_model.specs.CallChanges.{at_channel, at_live, at_end, closing, lent_by, lent_by_test, lending, success_changes, call_changes, new_sender}
-use Rattle.board_model.specs.Change.{Change, channel_set, buffer_used, request_added, channel_given, with_channel, changed, changed_all}
+use Rattle.board_model.specs.Change.{Change, channel_set, buffers_used, request_added, channel_given, with_channel, changed, changed_all}
 use Rattle.board_model.specs.ChannelEnds.{EndCall, opens, sends, closes, is_closed, is_connecting, same_kind, same_side, opened_end, closed_end}
 use Rattle.board_model.specs.Choice.{oldest}
 use Rattle.board_model.specs.Deeds.{calls}
@@ -36,8 +40,11 @@ use Rattle.board_model.proofs.StateEnds.{there_is}
 use Rattle.board_model.proofs.RawFrames.{letters_put}
 
 -- the frame says the letter
+abbrev no_frame : Came
+no_frame = record { names = []; part = None }
+
 abbrev pub Reads : Post → Type 0
-Reads x = reading (put_of x).1 ≡ says x.source x.destination x.letter
+Reads x = FramesSaid x.source x.destination x.letter (letter_frames x.source x.destination x.letter)
 
 kind_is : (k j : Kind) → not (same_kind k j) ≡ false → k ≡ j
 kind_is Packet Packet e = refl
@@ -59,13 +66,13 @@ module _ (n p : ℕ) (w : Way) (t m : List (List ℕ)) (s : DomainState) (own : 
 
   -- the letters of what is put
   abbrev on_lane : List Post → List Sent
-  on_lane xs = letters n (frames_to p (map put_of xs))
+  on_lane xs = letters n (frames_to p (flat_map puts_of xs))
 
   one_letter : (x : Post) → Reads x → on_lane (x ∷ []) ≡ cond (x.peer == p) (sent_by n (says x.source x.destination x.letter)) []
-  one_letter x read = go (x.peer == p)
+  one_letter x read = ap (letters n) (one_post p x) ∙ go (x.peer == p)
     where
-      go : (b : Bool) → letters n (cond b ((put_of x).1 ∷ []) [] ++ []) ≡ cond b (sent_by n (says x.source x.destination x.letter)) []
-      go true = append-nil (sent_by n (reading (put_of x).1)) ∙ ap (sent_by n) read
+      go : (b : Bool) → letters n (cond b (letter_frames x.source x.destination x.letter) []) ≡ cond b (sent_by n (says x.source x.destination x.letter)) []
+      go true = said-once (sent_by n) (λ a d q. refl) x.source x.destination x.letter (letter_frames x.source x.destination x.letter) read
       go false = refl
 
   -- what is put says nothing of the channel
@@ -134,10 +141,10 @@ module _ (n p : ℕ) (w : Way) (t m : List (List ℕ)) (s : DomainState) (own : 
     ]
 
     abbrev open_changes : List Change
-    open_changes = buffer_used c.peer ∷ channel_set e.address (Some (opened_end c)) ∷ []
+    open_changes = buffers_used c.peer 1 ∷ channel_set e.address (Some (opened_end c)) ∷ []
 
     opens_fit : is_connecting c.stage ≡ false → is_closed c.stage ≡ false → FitAllOut n p t s open_changes
-    opens_fit free live = (tt, (rw (found, is) (turned_to n p t s 0 None 0 0 c (opened_end c) refl refl refl refl refl (λ a b. sym live) (λ a b k. inl free)), tt))
+    opens_fit free live = (tt, (rw (found, is) (turned_to n p t s 0 no_frame 0 0 c (opened_end c) refl refl refl refl refl (λ a b. sym live) (λ a b k. inl free)), tt))
 
     opens_done : Reads (post_of send_open) → is_sender c.side ≡ true → is_connecting c.stage ≡ false → is_closed c.stage ≡ false → Done (on_lane (post_of send_open ∷ [])) open_changes
     opens_done read side free live = ours send_open open_changes read (λ k. refl) side
@@ -148,20 +155,20 @@ module _ (n p : ℕ) (w : Way) (t m : List (List ℕ)) (s : DomainState) (own : 
         (λ k. opens_fit free live)
 
     -- an item of the channel's kind
-    carries_done : (l : ℕ → PlainLetter) → Reads (post_of l) → ((k : ℕ) → letter_on n (l k) ≡ (k == n)) → is_sender c.side ≡ true → is_connecting c.stage ≡ false → is_closed c.stage ≡ false → Follows (goes_to c.peer_address c.kind) (said l) → ((v : Way) → way_after v (said l) ≡ v) →
-        Done (on_lane (post_of l ∷ [])) (buffer_used c.peer ∷ [])
-    carries_done l read on side free live follows still = ours l (buffer_used c.peer ∷ []) read on side
+    carries_done : (count : ℕ) (l : ℕ → PlainLetter) → Reads (post_of l) → ((k : ℕ) → letter_on n (l k) ≡ (k == n)) → is_sender c.side ≡ true → is_connecting c.stage ≡ false → is_closed c.stage ≡ false → Follows (goes_to c.peer_address c.kind) (said l) → ((v : Way) → way_after v (said l) ≡ v) →
+        Done (on_lane (post_of l ∷ [])) (buffers_used c.peer count ∷ [])
+    carries_done count l read on side free live follows still = ours l (buffers_used c.peer count ∷ []) read on side
         (λ number peer.
         let here = here_at e.address c (sender_of e c found is side number) in
         let way = way_here c here.outgoing peer live in (
           (subst (λ v. Follows v (said l)) (sym way) follows, tt),
-          subst (λ v. Sending n p v t (m ++ contents (said l ∷ [])) (changed_all s (buffer_used c.peer ∷ []))) (sym (still w))
-              (put_more (contents (said l ∷ [])) (buffer_used c.peer ∷ []) (here.outgoing.told peer free) (sending_changes n p w t m s (buffer_used c.peer ∷ []) (tt, tt) sending) (omega (arith, here.given))),
+          subst (λ v. Sending n p v t (m ++ contents (said l ∷ [])) (changed_all s (buffers_used c.peer count ∷ []))) (sym (still w))
+              (put_more (contents (said l ∷ [])) (buffers_used c.peer count ∷ []) (here.outgoing.told peer free) (sending_changes n p w t m s (buffers_used c.peer count ∷ []) (tt, tt) sending) (omega (arith, here.given))),
         ))
         (λ k. (tt, tt))
 
     abbrev shut_changes : List Change
-    shut_changes = buffer_used c.peer ∷ channel_set e.address (closed_end c) ∷ []
+    shut_changes = buffers_used c.peer 1 ∷ channel_set e.address (closed_end c) ∷ []
 
     -- an end that closes and is not on this lane
     shuts_elsewhere : is_sender c.side ≡ true → is_connecting c.stage ≡ false → ((c.number == n) ≡ true → (c.peer == p) ≡ true → ⊥) → FitAllOut n p t s shut_changes
@@ -169,8 +176,8 @@ module _ (n p : ℕ) (w : Way) (t m : List (List ℕ)) (s : DomainState) (own : 
       tt,
       (
         rw (found, is) (cond_both c.far_closed None (Some (record c { stage = closed })) (λ x. Alters n p t (sent_of n (Some c)) (sent_of n x))
-            (λ e. gone_from n p t s 0 None 0 0 c)
-            (λ e. turned_to n p t s 0 None 0 0 c (record c { stage = closed }) refl refl refl refl refl (λ a b. absurd (away a b)) (λ a b k. inl free))),
+            (λ e. gone_from n p t s 0 no_frame 0 0 c)
+            (λ e. turned_to n p t s 0 no_frame 0 0 c (record c { stage = closed }) refl refl refl refl refl (λ a b. absurd (away a b)) (λ a b k. inl free))),
         tt,
       ),
     )
@@ -178,7 +185,7 @@ module _ (n p : ℕ) (w : Way) (t m : List (List ℕ)) (s : DomainState) (own : 
     -- one that is
     shut_at : SentAt n p (is_over c.peer_address) t m (sent_of n (closed_end c)) → n ≤ s.channels_given → ((b : ℕ) → (e.address == b) ≡ false → sent n (endpoint_of s b) ≡ None) → Sending n p (is_over c.peer_address) t m (changed_all s shut_changes)
     shut_at at given others =
-        let used = changed s (buffer_used c.peer) in
+        let used = changed s (buffers_used c.peer 1) in
         numbered (omega (arith, given)) e.address
         (λ b other. ap (sent n) (seen used (channel_set e.address (closed_end c)) b ∙ same_at e.address b _ _ other) ∙ others b other)
         (rw (seen used (channel_set e.address (closed_end c)) e.address, at_it e.address (with_channel (closed_end c)) (endpoint_of used e.address), found) at)
@@ -205,7 +212,7 @@ module _ (n p : ℕ) (w : Way) (t m : List (List ℕ)) (s : DomainState) (own : 
     asking = post to.domain source (unwrap_or (address_of s to) 0) (connect (s.channels_given + 1) kind)
 
     abbrev connecting_changes : List Change
-    connecting_changes = buffer_used to.domain ∷ channel_set e.address (Some (new_sender s to kind)) ∷ request_added (channel_of (s.channels_given + 1)) None ∷ channel_given ∷ []
+    connecting_changes = buffers_used to.domain 1 ∷ channel_set e.address (Some (new_sender s to kind)) ∷ request_added (channel_of (s.channels_given + 1)) None ∷ channel_given ∷ []
 
     unsent : sent n (endpoint_of s e.address) ≡ None
     unsent = ap (sent n) found ∙ ap (sent_of n) (no_end e.channel none)
@@ -218,7 +225,7 @@ module _ (n p : ℕ) (w : Way) (t m : List (List ℕ)) (s : DomainState) (own : 
 
     new_at : (v : Way) → NoneSends n s → s.channels_given + 1 ≡ n → m ≡ [] → v ≡ cond (to.domain == p) (goes_to (unwrap_or (address_of s to) 0) kind) not_begun → Sending n p v t m (changed_all s connecting_changes)
     new_at v clear number empty way =
-        let used = changed s (buffer_used to.domain) in
+        let used = changed s (buffers_used to.domain 1) in
         numbered (omega (arith, number)) e.address
         (λ b other. ap (sent n) (seen used (channel_set e.address (Some (new_sender s to kind))) b ∙ same_at e.address b _ _ other) ∙ clear b)
         (rw (seen used (channel_set e.address (Some (new_sender s to kind))) e.address, at_it e.address (with_channel (Some (new_sender s to kind))) (endpoint_of used e.address), new_sent true (eq-eqb (s.channels_given + 1) n number))
@@ -297,13 +304,13 @@ module _ (n p : ℕ) (w : Way) (t m : List (List ℕ)) (s : DomainState) (own : 
   success_posted node (create_at port) no_word = nobody_posts (success_changes s node (create_at port)) (tt, (tt, (tt, tt)))
   success_posted node (delete_at port) no_word = nobody_posts (success_changes s node (delete_at port)) (live_posts (live_at s (local node port)) _ (λ e is. (tt, (unsent_at (local node port) e is no_word.1.0, (tt, tt)))))
   success_posted node (lookup_of name) no_word = nobody_posts (success_changes s node (lookup_of name)) (tt, tt)
-  success_posted node (send_from port to priority bytes) no_word = λ read. says_nothing _ (buffer_used to.domain ∷ []) read.0 (λ k. refl) (tt, tt)
+  success_posted node (send_from port to priority bytes) no_word = λ read. says_nothing _ (buffers_used to.domain (frames_needed (msg priority bytes)) ∷ []) read.0 (λ k. refl) (tt, tt)
   success_posted node (receive_at port max) no_word = nobody_posts (success_changes s node (receive_at port max)) (live_posts (live_at s (local node port)) _ (λ e is. (tt, tt)))
   success_posted node (request_at port max) no_word = nobody_posts (success_changes s node (request_at port max)) (live_posts (live_at s (local node port)) _ (λ e is. (tt, (tt, tt))))
   success_posted node (available_at port) no_word = nobody_posts [] tt
   success_posted node (connect_from port to kind) no_word =
       let e = there_is s (local node port) no_word.0 in
-      subst (λ x. Posted (success_posts s node (connect_from port to kind)) (at_live x (λ f. buffer_used to.domain ∷ channel_set f.address (Some (new_sender s to kind)) ∷ request_added (channel_of (s.channels_given + 1)) None ∷ channel_given ∷ []))) (sym e.1)
+      subst (λ x. Posted (success_posts s node (connect_from port to kind)) (at_live x (λ f. buffers_used to.domain 1 ∷ channel_set f.address (Some (new_sender s to kind)) ∷ request_added (channel_of (s.channels_given + 1)) None ∷ channel_given ∷ []))) (sym e.1)
       (λ read. asks e.0 to kind (unwrap_or (address_at s (local node port)) 0) (own (local node port) e.0 e.1) (unconnected_at (local node port) e.0 e.1 no_word.1.0) read.0)
   success_posted node (open_at port Sender kind) no_word = end_posts (local node port) send_open _ (λ e c is has read.
       let call : EndCall = opens Sender kind in
@@ -311,16 +318,16 @@ module _ (n p : ℕ) (w : Way) (t m : List (List ℕ)) (s : DomainState) (own : 
       (or_parts (is_closed c.stage) c.far_closed (of_end s (local node port) call ChanClosed e c is has no_word.1.1.1.1.0)).0)
   success_posted node (open_at port Receiver kind) no_word = end_posts (local node port) recv_open _ (λ e c is has read.
       let call : EndCall = opens Receiver kind in
-      says_nothing _ (buffer_used c.peer ∷ channel_set e.address (Some (opened_end c)) ∷ []) read (λ k. refl)
+      says_nothing _ (buffers_used c.peer 1 ∷ channel_set e.address (Some (opened_end c)) ∷ []) read (λ k. refl)
       (opens_fit e c (own (local node port) e is) has (of_end s (local node port) call NotConnected e c is has no_word.1.0) (of_end s (local node port) call ChanClosed e c is has no_word.1.1.1.1.0)))
   success_posted node (packet_from port bytes) no_word = end_posts (local node port) (λ k. packet k bytes) _ (λ e c is has read.
       let call : EndCall = sends Packet in
-      carries_done e c (own (local node port) e is) has (λ k. packet k bytes) read (λ k. refl) (not_false (is_sender c.side) (of_end s (local node port) call ChanDirection e c is has no_word.1.1.0)) (of_end s (local node port) call NotConnected e c is has no_word.1.0)
+      carries_done e c (own (local node port) e is) has (frames_needed (packet c.number bytes)) (λ k. packet k bytes) read (λ k. refl) (not_false (is_sender c.side) (of_end s (local node port) call ChanDirection e c is has no_word.1.1.0)) (of_end s (local node port) call NotConnected e c is has no_word.1.0)
       (or_parts (is_closed c.stage) c.far_closed (of_end s (local node port) call ChanClosed e c is has no_word.1.1.1.1.0)).0
       (refl, kind_is c.kind Packet (of_end s (local node port) call ChanType e c is has no_word.1.1.1.0)) (λ v. refl))
   success_posted node (scalar_from port bits value) no_word = end_posts (local node port) (λ k. scalar k bits value) _ (λ e c is has read.
       let call : EndCall = sends Scalar in
-      carries_done e c (own (local node port) e is) has (λ k. scalar k bits value) read (λ k. refl) (not_false (is_sender c.side) (of_end s (local node port) call ChanDirection e c is has no_word.1.1.0)) (of_end s (local node port) call NotConnected e c is has no_word.1.0)
+      carries_done e c (own (local node port) e is) has 1 (λ k. scalar k bits value) read (λ k. refl) (not_false (is_sender c.side) (of_end s (local node port) call ChanDirection e c is has no_word.1.1.0)) (of_end s (local node port) call NotConnected e c is has no_word.1.0)
       (or_parts (is_closed c.stage) c.far_closed (of_end s (local node port) call ChanClosed e c is has no_word.1.1.1.1.0)).0
       (refl, kind_is c.kind Scalar (of_end s (local node port) call ChanType e c is has no_word.1.1.1.0)) (λ v. refl))
   success_posted node (lend_at port) no_word = nobody_posts (success_changes s node (lend_at port)) (live_posts (live_at s (local node port)) _ (λ e is. (tt, lending_out _ (oldest e.queue))))

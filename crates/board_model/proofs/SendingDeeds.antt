@@ -1,12 +1,15 @@
 -- The sender's end of a channel along a run: its letters are put in order, and data only after an accept came.
+use Rattle.board_model.proofs.PartPuts.{deed_closed, owed_whole, IsWhole}
+use Rattle.board_model.proofs.PartReadings.{coming-holds, is_part}
+use Rattle.board_model.specs.Parts.{Came, came_from, said_from, held_by, part_of, coming}
 use Rattle.std.proofs.Common.{◌≡◌, ℕ, ◌-◌, ◌≤◌, Bool, true, false, inl, inr, List, [], ◌∷◌, ◌++◌, map, Option, Some, None, refl, sym, ap, ◌∙◌, subst, arith}
 use Rattle.std.specs.Prelude.{◌==◌, ◌||◌}
 use Rattle.std.specs.List.{AllByRecursion, list_any, flat_map}
 use Rattle.std.proofs.lemmas.Bool.{eq-eqb}
 use Rattle.std.proofs.lemmas.List.{append_assoc, append-nil}
 use Rattle.mc_base.specs.Frame.{made}
-use Rattle.mc_base.specs.Letter.{accept, reject, fields_of, spelling}
-use Rattle.mc_base.specs.Reading.{Reading, reading}
+use Rattle.mc_base.specs.Letter.{accept, reject, fields_of, spelling, Carrier, of_message, of_packet, carried}
+use Rattle.mc_base.specs.Reading.{Reading, reading, is_faulty, announces, says, brings}
 use Rattle.mc_base.specs.declared.channel.Reason.{Reason}
 use Rattle.board_model.proofs.ChannelWords.{Way, Sent, sent_by, letters, contents, way_after, InOrder, way_of}
 use Rattle.board_model.proofs.DeedRuns.{frames_if, puts_by, takes_by}
@@ -21,8 +24,8 @@ use Rattle.board_model.proofs.Sending.{Accepted, MayHave, SentAt, sent, Sending,
 use Rattle.board_model.proofs.SendingFrames.{frame_fits_out}
 use Rattle.board_model.proofs.SendingCalls.{Reads, call_posted}
 use Rattle.board_model.specs.Answer.{refusal, success_posts}
-use Rattle.board_model.specs.Change.{Change, frame_taken, changed, changed_all}
-use Rattle.board_model.specs.Deeds.{Deed, looks_back, puts_owed, looks_ahead, takes, calls, happens_by, after_deed, MayDo, AllMayDo, after_deeds, along}
+use Rattle.board_model.specs.Change.{Change, changed, changed_all}
+use Rattle.board_model.specs.Deeds.{Deed, looks_back, puts_owed, looks_ahead, takes, calls, happens_by, after_deed, MayDo, AllMayDo, after_deeds, along, taken_change}
 use Rattle.board_model.specs.State.{ChannelEnd, Announcement, Reply, Peer, DomainState, letter_by, announcing, replying, owed_to, endpoint_of}
 use Rattle.board_model.proofs.TakenRows.{row_same}
 
@@ -88,8 +91,18 @@ module _ (n : ℕ) where
   owed_mute d p = all-append (IsMute n) (map (announcing d) p.announcements) (map replying p.replies) (announcements_mute d p.announcements) (replies_mute p.replies)
 
   -- so an owed frame that is put has none of its letters
-  pub owed_put_mute : (s : DomainState) (q : ℕ) (frame : List ℕ) → MayDo s (puts_owed q frame) → IsMute n frame
-  owed_put_mute s q frame may = (subst (AllByRecursion (IsMute n)) may.3 (owed_mute s.number may.0)).0
+  pub owed_put_mute : (s : DomainState) (q : ℕ) (frame : List ℕ) → MayDo s (puts_owed q frame) → IsMute n frame × (is_part (reading frame) ≡ false)
+  owed_put_mute s q frame may = ((subst (AllByRecursion (IsMute n)) may.3 (owed_mute s.number may.0)).0, (subst (AllByRecursion IsWhole) may.3 (owed_whole s.number may.0)).0)
+
+-- nor with no part before it
+pub alone_mute : (n : ℕ) (frame : List ℕ) → IsMute n frame × (is_part (reading frame) ≡ false) → sent_by n (coming None (reading frame)).reading ≡ []
+alone_mute n frame mute = go (reading frame) mute.1 mute.0
+  where
+    go : (r : Reading) → is_part r ≡ false → sent_by n r ≡ [] → sent_by n (coming None r).reading ≡ []
+    go (brings a d q) is none = absurd cc
+    go (is_faulty f) is none = none
+    go (announces text a there) is none = none
+    go (says a d l) is none = none
 
 -- ---- a deed
 
@@ -98,6 +111,10 @@ abbrev pub ReadsDeed : DomainState → Deed → Type 0
 ReadsDeed s (calls node call a) = refusal s node call ≡ None → AllByRecursion Reads (success_posts s node call)
 ReadsDeed s other = Unit {0}
 
+deaf_carrier : (n a d : ℕ) (k : Carrier) (bytes : List ℕ) → accepts n (says a d (carried k bytes)) ≡ false
+deaf_carrier n a d (of_message priority) bytes = refl
+deaf_carrier n a d (of_packet m) bytes = refl
+
 module _ (n p : ℕ) (w : Way) (t m : List (List ℕ)) (s : DomainState) (own : Own s) (sending : Sending n p w t m s) where
   abbrev pub Kept : List Sent → List (List ℕ) → List Change → Type 0
   Kept ls fs cs = InOrder w ls × Sending n p (way_of w ls) (t ++ fs) (m ++ contents ls) (changed_all s cs)
@@ -105,12 +122,12 @@ module _ (n p : ℕ) (w : Way) (t m : List (List ℕ)) (s : DomainState) (own : 
   nothing_put : (fs : List (List ℕ)) (cs : List Change) → FitAllOut n p (t ++ fs) s cs → Kept [] fs cs
   nothing_put fs cs fits = (tt, subst (λ k. Sending n p w (t ++ fs) k (changed_all s cs)) (sym (append-nil m)) (sending_changes n p w (t ++ fs) m s cs fits (hear_more n p w t fs m s sending)))
 
-  owed_is_put : (q : ℕ) (frame : List ℕ) → IsMute n frame → Kept (letters n (puts_by p s (puts_owed q frame))) [] (happens_by s (puts_owed q frame))
+  owed_is_put : (q : ℕ) (frame : List ℕ) → sent_by n (coming None (reading frame)).reading ≡ [] → Kept (letters n (puts_by p s (puts_owed q frame))) [] (happens_by s (puts_owed q frame))
   owed_is_put q frame quiet = go (q == p)
     where
       go : (b : Bool) → Kept (letters n (frames_if b (frame ∷ []))) [] (happens_by s (puts_owed q frame))
       go false = nothing_put [] (happens_by s (puts_owed q frame)) (tt, tt)
-      go true = subst (λ ls. Kept ls [] (happens_by s (puts_owed q frame))) (sym (append-nil (sent_by n (reading frame)) ∙ quiet)) (nothing_put [] (happens_by s (puts_owed q frame)) (tt, tt))
+      go true = subst (λ ls. Kept ls [] (happens_by s (puts_owed q frame))) (sym (append-nil (sent_by n (coming None (reading frame)).reading) ∙ quiet)) (nothing_put [] (happens_by s (puts_owed q frame)) (tt, tt))
 
   pub sender_step : (d : Deed) → MayDo s d → ReadsDeed s d → Kept (letters n (puts_by p s d)) (takes_by p d) (happens_by s d)
   sender_step (looks_back q count) may read = nothing_put [] (happens_by s (looks_back q count)) (tt, tt)
@@ -118,14 +135,15 @@ module _ (n p : ℕ) (w : Way) (t m : List (List ℕ)) (s : DomainState) (own : 
   sender_step (calls node call a) may read =
       let done = call_posted n p w t m s own sending node call a read in
       (done.0, subst (λ k. Sending n p (way_of w (letters n (puts_by p s (calls node call a)))) k (m ++ contents (letters n (puts_by p s (calls node call a)))) (after_deed s (calls node call a))) (sym (append-nil t)) done.1)
-  sender_step (puts_owed q frame) may read = owed_is_put q frame (owed_put_mute n s q frame may)
+  sender_step (puts_owed q frame) may read = owed_is_put q frame (alone_mute n frame (owed_put_mute n s q frame may))
   sender_step (takes q name frame word) may read =
-      let taken = changed s (frame_taken q) in
+      let c : Came = came_from s q name frame in
+      let taken = changed s (taken_change q c) in
       nothing_put (takes_by p (takes q name frame word)) (happens_by s (takes q name frame word)) (
         tt,
-        subst (λ r. FitAllOut n p (t ++ takes_by p (takes q name frame word)) taken r.happens) (row_same s q q name (reading frame))
-            (frame_fits_out n p (t ++ takes_by p (takes q name frame word)) taken q name (reading frame)
-            (λ from it. subst (λ b. Accepted n (t ++ frames_if b (frame ∷ []))) (sym (eq-eqb q p from)) (any-last (λ f. accepts n (reading f)) t frame it))),
+        subst (λ r. FitAllOut n p (t ++ takes_by p (takes q name frame word)) taken r.happens) (row_same s q c.part (held_by c) q c (said_from s q frame))
+            (frame_fits_out n p (t ++ takes_by p (takes q name frame word)) taken q c (said_from s q frame)
+            (λ from. coming-holds (λ r. accepts n r ≡ true → Accepted n (t ++ takes_by p (takes q name frame word))) (λ a d k bytes it. let never = sym (deaf_carrier n a d k bytes) ∙ it in absurd cc) (λ a d x it. absurd cc) (part_of s q) (reading frame) (λ it. subst (λ b. Accepted n (t ++ frames_if b (frame ∷ []))) (sym (eq-eqb q p from)) (any-last (λ f. accepts n (reading f)) t frame it))))
       )
 
 -- ---- a run
@@ -161,7 +179,7 @@ run_sending n p w t m s (d ∷ ds) may out sending =
     let fs : List (List ℕ) = flat_map (takes_by p) (d ∷ ds) in
     let now = sender_step n p w t m s out.0.0 sending d may.0 out.0.1 in
     let rest = run_sending n p (way_of w (letters n here)) _ _ (after_deed s d) ds may.1 out.1 now.1 in
-    subst (λ ls. SentOut n p w t m ls fs (after_deeds s (d ∷ ds))) (sym (letters-append n here later)) (
+    subst (λ ls. SentOut n p w t m ls fs (after_deeds s (d ∷ ds))) (sym (letters-append n here later (deed_closed p s d may.0 out.0.1))) (
       in_order-join w (letters n here) (letters n later) now.0 rest.0,
       subst (λ v. Sending n p v (t ++ fs) (m ++ contents (letters n here ++ letters n later)) (after_deeds s (d ∷ ds))) (sym (way_of-append w (letters n here) (letters n later)))
           (subst (λ k. Sending n p (way_of (way_of w (letters n here)) (letters n later)) k (m ++ contents (letters n here ++ letters n later)) (after_deeds s (d ∷ ds))) (append_assoc t (takes_by p d) (flat_map (takes_by p) ds))

@@ -1,4 +1,5 @@
 -- What frames do to the sender's end of a channel.
+use Rattle.board_model.specs.Parts.{Came}
 use Rattle.std.proofs.Common.{◌≡◌, ℕ, Bool, true, false, not, cond, ◌⊎◌, inl, inr, List, Option, Some, None, refl, sym, ap₂, ◌∙◌, subst, arith}
 use Rattle.std.specs.Prelude.{◌==◌, ◌&&◌}
 use Rattle.std.proofs.lemmas.Bool.{and_parts, eqb-true, eq-eqb, cond_both}
@@ -12,8 +13,8 @@ use Rattle.board_model.specs.Change.{channel_set}
 use Rattle.board_model.specs.ChannelEnds.{sends_to, is_closed, is_connecting, far_closed_end}
 use Rattle.board_model.specs.State.{Item, ChannelEnd, Endpoint, DomainState, connected, endpoint_of}
 use Rattle.board_model.specs.TakenFrames.{Row, first_row, rows, letter_rows, channel_rows, message_rows, connect_rows}
-use Rattle.mc_base.specs.Reading.{Reading, is_faulty, announces, says}
-use Rattle.board_model.proofs.LaneRows.{by_rows}
+use Rattle.mc_base.specs.Reading.{Reading, is_faulty, announces, says, brings}
+use Rattle.board_model.proofs.LaneRows.{by_rows, by_part}
 use Rattle.board_model.proofs.HearingCalls.{no_end}
 
 not_true : (b : Bool) → not b ≡ true → b ≡ false
@@ -21,7 +22,7 @@ not_true true e = absurd cc
 not_true false e = refl
 
 -- `q` is the peer that the frame came from; `t` the frames taken from `p`, this one among them where it is from `p`
-module _ (n p : ℕ) (t : List (List ℕ)) (s : DomainState) (q : ℕ) (key : Option ℕ) (src dst : ℕ) where
+module _ (n p : ℕ) (t : List (List ℕ)) (s : DomainState) (q : ℕ) (key : Came) (src dst : ℕ) where
   abbrev Fit : Row → Type 0
   Fit r = FitAllOut n p t s r.happens
 
@@ -116,8 +117,9 @@ module _ (n p : ℕ) (t : List (List ℕ)) (s : DomainState) (q : ℕ) (key : Op
   letter_fits (Some e) found (send_close m) told = channel_fits e found e.channel refl _ (send_close m) told
   letter_fits (Some e) found (recv_close m) told = channel_fits e found e.channel refl _ (recv_close m) told
 
-pub frame_fits_out : (n p : ℕ) (t : List (List ℕ)) (s : DomainState) (q : ℕ) (key : Option ℕ) (r : Reading) → ((q ≡ p) → accepts n r ≡ true → Accepted n t) → FitAllOut n p t s (first_row (rows s q key r)).happens
+pub frame_fits_out : (n p : ℕ) (t : List (List ℕ)) (s : DomainState) (q : ℕ) (key : Came) (r : Reading) → ((q ≡ p) → accepts n r ≡ true → Accepted n t) → FitAllOut n p t s (first_row (rows s q key r)).happens
 frame_fits_out n p t s q key (is_faulty f) told = tt
+frame_fits_out n p t s q key (brings src dst x) told = by_part (FitAllOut n p t s) s q key src dst x tt
 frame_fits_out n p t s q key (announces name address create) told = by_names (FitAllOut n p t s) s q key name address create tt (λ m. (tt, (tt, tt))) (λ m. (tt, tt))
 frame_fits_out n p t s q key (says src dst l) told = letter_fits n p t s q key src dst (endpoint_of s dst) refl l
     (λ m is from number. told from (subst (λ k. accepts n (says src dst k) ≡ true) (sym is) (eq-eqb m n number)))

@@ -1,5 +1,7 @@
 -- Serials of requests: a turn leaves those of the requests that stand, and a call ends one of them at most and gives the next
 -- one at most. The place of a request is that of its serial.
+use Rattle.mc_base.specs.Letter.{packet}
+use Rattle.mc_base.specs.Pieces.{frames_needed}
 use Rattle.std.proofs.Common.{◌≡◌, ℕ, zero, suc, ◌+◌, ◌<◌, ◌≤◌, ◌^◌, Bool, true, false, cond, List, [], ◌∷◌, ◌++◌, length, map, Option, Some, None, position, option_map, option_and_then, option_to_list, refl, sym, ap, ap₂, ◌∙◌, arith, append-nil, mod-eq_of_lt, eq-eqb, eqb-true}
 use Rattle.std.specs.Prelude.{◌==◌, ◌&&◌, is_none}
 use Rattle.std.specs.List.{position_from, AllByRecursion}
@@ -16,7 +18,7 @@ use Rattle.board_model.specs.DomainCall.{DomainCall, create_at, delete_at, looku
 use Rattle.board_model.specs.Lists.{without_at, without}
 use Rattle.board_model.specs.Journal.{Visit}
 use Rattle.board_model.specs.State.{DomainState, ChannelEnd, Endpoint, Item, Asked, Request, Outcome, channel_of, message_at, packet_at, has_address, has_item, has_ended, has_serial, endpoint_of, live_at, request_at_place, place_of_request, waits_at}
-use Rattle.board_model.specs.Change.{Change, endpoint_gone, best_gone, oldest_gone, channel_set, item_handed, waiting_ended, name_found, connect_settled, request_added, request_gone, end_announced, buffer_used, packet_lent, channel_given, asks_for, connects_on, all_done, done_with, handed_in, ended_in, changed, changed_all}
+use Rattle.board_model.specs.Change.{Change, endpoint_gone, best_gone, oldest_gone, channel_set, item_handed, waiting_ended, name_found, connect_settled, request_added, request_gone, end_announced, buffers_used, packet_lent, channel_given, asks_for, connects_on, all_done, done_with, handed_in, ended_in, changed, changed_all}
 use Rattle.board_model.specs.ChannelEnds.{opened_end}
 use Rattle.board_model.specs.CallChanges.{at_live, at_end, new_sender, closing, best_item, lending, lent_by, lent_by_test, success_changes, effect, tested}
 use Rattle.board_model.specs.Choice.{oldest}
@@ -118,21 +120,24 @@ module _ (s : DomainState) (node port : ℕ) where
 -- a connect finds its endpoint, too
 module _ (s : DomainState) (node port : ℕ) (to : EndName) (kind : Kind) where
   abbrev connects : Endpoint → List Change
-  connects e = buffer_used to.domain ∷ channel_set e.address (Some (new_sender s to kind)) ∷ request_added (channel_of (s.channels_given + 1)) None ∷ channel_given ∷ []
+  connects e = buffers_used to.domain 1 ∷ channel_set e.address (Some (new_sender s to kind)) ∷ request_added (channel_of (s.channels_given + 1)) None ∷ channel_given ∷ []
 
   connects_at : refusal s node (connect_from port to kind) ≡ None → (e : Endpoint) × (live_at s (local node port) ≡ Some e)
   connects_at none = there_is s (local node port) (none-passes (holds s node (connect_from port to kind)) (words_of (connect_from port to kind)) none).0
 
 -- what opens and closes of ends keep
 abbrev opens : Endpoint → ChannelEnd → List Change
-opens e c = buffer_used c.peer ∷ channel_set e.address (Some (opened_end c)) ∷ []
+opens e c = buffers_used c.peer 1 ∷ channel_set e.address (Some (opened_end c)) ∷ []
 
 pub end_same : {X : Type 0} (f : DomainState → X) (s : DomainState) (o : Option Endpoint) (cs : Endpoint → ChannelEnd → List Change) → ((e : Endpoint) (c : ChannelEnd) → f (changed_all s (cs e c)) ≡ f s) → f (changed_all s (at_end o cs)) ≡ f s
 end_same f s o cs same = end-holds (λ ds. f (changed_all s ds) ≡ f s) refl o cs (λ e c live has. same e c)
 
 -- what sends over ends keep
+abbrev sends_packet : List ℕ → Endpoint → ChannelEnd → List Change
+sends_packet bytes e c = buffers_used c.peer (frames_needed (packet c.number bytes)) ∷ []
+
 abbrev sends : Endpoint → ChannelEnd → List Change
-sends e c = buffer_used c.peer ∷ []
+sends e c = buffers_used c.peer 1 ∷ []
 
 -- what no packet that is lent changes
 module _ {X : Type 0} (f : DomainState → X) (kept : (s : DomainState) (i : Item) → f (changed s (packet_lent i)) ≡ f s) where
@@ -175,7 +180,7 @@ success_serials s node (available_at port) none = sym (append-nil (serials s))
 success_serials s node (connect_from port to kind) none =
     ap (λ o. serials (changed_all s (at_live o (connects s node port to kind)))) (connects_at s node port to kind none).1 ∙ map-append (λ r. r.serial) s.requests _
 success_serials s node (open_at port side kind) none = end_same serials s (live_at s (local node port)) opens (λ e c. refl) ∙ sym (append-nil (serials s))
-success_serials s node (packet_from port bytes) none = end_same serials s (live_at s (local node port)) sends (λ e c. refl) ∙ sym (append-nil (serials s))
+success_serials s node (packet_from port bytes) none = end_same serials s (live_at s (local node port)) (sends_packet bytes) (λ e c. refl) ∙ sym (append-nil (serials s))
 success_serials s node (lend_at port) none =
     live_same serials s (live_at s (local node port)) (λ e. oldest_gone e.address ∷ lending (oldest e.queue)) (λ e. lending_same serials (λ t i. refl) (changed s (oldest_gone e.address)) (oldest e.queue)) ∙ sym (append-nil (serials s))
 success_serials s node (packet_request_at port) none =
@@ -209,7 +214,7 @@ success_gives s node (request_at port max) none small = ap (λ o. (changed_all s
 success_gives s node (available_at port) none small = omega arith
 success_gives s node (connect_from port to kind) none small = ap (λ o. (changed_all s (at_live o (connects s node port to kind))).requests_given) (connects_at s node port to kind none).1 ∙ mod-eq_of_lt small
 success_gives s node (open_at port side kind) none small = omega (arith, end_same (λ t. t.requests_given) s (live_at s (local node port)) opens (λ e c. refl))
-success_gives s node (packet_from port bytes) none small = omega (arith, end_same (λ t. t.requests_given) s (live_at s (local node port)) sends (λ e c. refl))
+success_gives s node (packet_from port bytes) none small = omega (arith, end_same (λ t. t.requests_given) s (live_at s (local node port)) (sends_packet bytes) (λ e c. refl))
 success_gives s node (lend_at port) none small =
     omega (arith, live_same (λ t. t.requests_given) s (live_at s (local node port)) (λ e. oldest_gone e.address ∷ lending (oldest e.queue)) (λ e. lending_same (λ t. t.requests_given) (λ t i. refl) (changed s (oldest_gone e.address)) (oldest e.queue)))
 success_gives s node (packet_request_at port) none small = ap (λ o. (changed_all s (at_live o (asks_packet s node port))).requests_given) (packet_asked_at s node port none).1 ∙ mod-eq_of_lt small

@@ -7,7 +7,7 @@ use Rattle.mc_base.specs.Limits.{first_address}
 use Rattle.mc_base.specs.declared.name.Local.{Local}
 use Rattle.board_model.specs.Lists.{changed_first, without_first}
 use Rattle.board_model.specs.State.{Item, ChannelEnd, Endpoint, Asked, packet_at, Outcome, has_address, is_accepted, is_rejected, has_item, has_ended, Request, Announcement, Peer, DomainState, is_at, has_address_of, is_numbered, place_at, live_at}
-use Rattle.board_model.specs.Change.{Change, endpoint_made, endpoint_gone, item_queued, best_gone, oldest_gone, item_lost, channel_set, queue_dropped, request_added, item_handed, waiting_ended, name_found, connect_settled, request_gone, end_announced, reply_owed, owed_put, buffers_back, frames_shown, frame_taken, names_known, buffer_used, packet_lent, packet_gone, channel_given, endpoint_with, with_channel, without_queue, with_queue, also_owed, first_put, peers_after, changed, changed_all}
+use Rattle.board_model.specs.Change.{Change, endpoint_made, endpoint_gone, item_queued, best_gone, oldest_gone, item_lost, channel_set, queue_dropped, request_added, item_handed, waiting_ended, name_found, connect_settled, request_gone, end_announced, reply_owed, owed_put, buffers_back, frames_shown, frame_taken, names_known, buffers_used, packet_lent, packet_gone, channel_given, endpoint_with, with_channel, without_queue, with_queue, also_owed, first_put, peers_after, changed, changed_all}
 use Rattle.board_model.specs.CallChanges.{at_channel, at_end, lending, lent_by, lent_by_test}
 use Rattle.board_model.specs.Choice.{without_best}
 use Rattle.board_model.proofs.MessageAlls.{all-append, all-changed-first, all-filter, all-found, all-weaken}
@@ -90,9 +90,9 @@ numbers-kept s (reply_owed n r) = map-changed_first (λ p. p.number) (is_numbere
 numbers-kept s (owed_put n) = map-changed_first (λ p. p.number) (is_numbered n) first_put put-number s.peers
 numbers-kept s (buffers_back n count) = map-changed_first (λ p. p.number) (is_numbered n) (λ p. record p { free = p.free + count }) (λ p. refl) s.peers
 numbers-kept s (frames_shown n count) = map-changed_first (λ p. p.number) (is_numbered n) (λ p. record p { shown = count }) (λ p. refl) s.peers
-numbers-kept s (frame_taken n) = map-changed_first (λ p. p.number) (is_numbered n) (λ p. record p { shown = p.shown - 1 }) (λ p. refl) s.peers
+numbers-kept s (frame_taken n part names) = map-changed_first (λ p. p.number) (is_numbered n) (λ p. record p { shown = p.shown - 1; part = part }) (λ p. refl) s.peers
 numbers-kept s (names_known n names) = map-changed_first (λ p. p.number) (is_numbered n) (λ p. record p { known = names }) (λ p. refl) s.peers
-numbers-kept s (buffer_used n) = map-changed_first (λ p. p.number) (is_numbered n) (λ p. record p { free = p.free - 1 }) (λ p. refl) s.peers
+numbers-kept s (buffers_used n count) = map-changed_first (λ p. p.number) (is_numbered n) (λ p. record p { free = p.free - count }) (λ p. refl) s.peers
 numbers-kept s other = refl
 
 -- ---- a change
@@ -117,9 +117,9 @@ ends-changed s (reply_owed n r) ends = record { apart = ends.apart; below = ends
 ends-changed s (owed_put n) ends = record { apart = ends.apart; below = ends.below }
 ends-changed s (buffers_back n count) ends = record { apart = ends.apart; below = ends.below }
 ends-changed s (frames_shown n count) ends = record { apart = ends.apart; below = ends.below }
-ends-changed s (frame_taken n) ends = record { apart = ends.apart; below = ends.below }
+ends-changed s (frame_taken n part names) ends = record { apart = ends.apart; below = ends.below }
 ends-changed s (names_known n names) ends = record { apart = ends.apart; below = ends.below }
-ends-changed s (buffer_used n) ends = record { apart = ends.apart; below = ends.below }
+ends-changed s (buffers_used n count) ends = record { apart = ends.apart; below = ends.below }
 ends-changed s (packet_lent i) ends = record { apart = ends.apart; below = ends.below }
 ends-changed s (packet_gone place) ends = record { apart = ends.apart; below = ends.below }
 ends-changed s channel_given ends = record { apart = ends.apart; below = ends.below }

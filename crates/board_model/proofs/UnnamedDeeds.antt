@@ -1,32 +1,31 @@
 -- Deeds without the names of frames: they may be done where the deeds may, and lead to the same state without names.
+use Rattle.board_model.specs.Parts.{named_so}
 use Rattle.std.proofs.Common.{◌≡◌, ℕ, ◌+◌, List, [], ◌∷◌, ◌++◌, map, length, Option, None, refl, sym, ap, ◌∙◌, subst}
-use Rattle.std.specs.Prelude.{option_to_list}
 use Rattle.std.specs.List.{flat_map}
 use Rattle.std.proofs.lemmas.List.{map-append}
-use Rattle.mc_base.specs.Reading.{Reading}
 use Rattle.board_model.specs.Journal.{PlainEntry, Visit, Taken}
 use Rattle.board_model.specs.State.{DomainState}
 use Rattle.board_model.specs.Unnamed.{no_names, unnamed}
-use Rattle.board_model.specs.TakenFrames.{row_of}
+use Rattle.board_model.specs.TakenFrames.{row_from}
 use Rattle.board_model.specs.Deeds.{Deed, looks_back, puts_owed, looks_ahead, takes, after_deed, after_deeds, AllMayDo}
 use Rattle.board_model.specs.Turn.{nameless, takes_named, visit_deeds, after_visit, AreVisits, after_turn}
 use Rattle.board_model.specs.Traffic.{taken_from}
 use Rattle.board_model.specs.JournalDeeds.{names_from, named_deeds}
 use Rattle.board_model.proofs.DeedJoins.{may-join, after-join}
-use Rattle.board_model.proofs.RenamedDeeds.{renamed_deed, renamed_row, row-renamed, deed-renamed, deeds-renamed, all-renamed, renamed-may}
+use Rattle.board_model.proofs.RenamedDeeds.{renamed_deed, renamed_row, from-renamed, deed-renamed, deeds-renamed, all-renamed, renamed-may}
 
 -- no frame that is taken has a name
 abbrev pub no_name : ℕ → Option ℕ → Option ℕ
 no_name peer name = None
 
-none_named : (peer : ℕ) (name : Option ℕ) → no_names peer (option_to_list name) ≡ option_to_list (no_name peer name)
+none_named : (peer : ℕ) (name : Option ℕ) → no_names peer (named_so name) ≡ named_so (no_name peer name)
 none_named peer name = refl
 
 abbrev pub unnamed_deed : Deed → Deed
 unnamed_deed = renamed_deed no_name
 
-pub row-unnamed : (t : DomainState) (peer : ℕ) (name : Option ℕ) (r : Reading) → row_of (unnamed t) peer None r ≡ renamed_row no_names (row_of t peer name r)
-row-unnamed = row-renamed no_names no_name none_named
+pub row-unnamed : (t : DomainState) (peer : ℕ) (name : Option ℕ) (frame : List ℕ) → row_from (unnamed t) peer None frame ≡ renamed_row no_names (row_from t peer name frame)
+row-unnamed = from-renamed no_names no_name none_named
 
 pub deed-unnamed : (t : DomainState) (d : Deed) → unnamed (after_deed t d) ≡ after_deed (unnamed t) (unnamed_deed d)
 deed-unnamed = deed-renamed no_names no_name none_named

@@ -1,7 +1,7 @@
 -- A call of the serial run leaves each lane well: the frames that it puts are on their lanes, and what it gives back is returned.
 use Rattle.std.proofs.Common.{◌≡◌, ℕ, ◌+◌, Bool, true, false, ◌&&◌, cond, List, [], ◌∷◌, ◌++◌, length, count_by, Option, Some, refl, sym, ap, ◌∙◌, arith, length-append, append_assoc, append-nil}
 use Rattle.std.specs.Prelude.{◌==◌}
-use Rattle.board_model.specs.State.{DomainState, Item, is_from, free_to, held_from}
+use Rattle.board_model.specs.State.{DomainState, Item, frames_from, free_to, held_from}
 use Rattle.board_model.specs.DomainCall.{DomainCall}
 use Rattle.board_model.specs.Answer.{puts}
 use Rattle.board_model.specs.CallChanges.{effect, returned}
@@ -54,20 +54,20 @@ loaded-puts d (p ∷ ps) loads a b l e =
     ∙ ap (λ y. l.frames ++ cond (a == d) (cond y (p.1 ∷ frames_for b ps) (frames_for b ps)) []) (sym (eqb_turn b p.0 (b == p.0) refl)))
 
 -- and after items were given back
-pub loaded-given : (d : ℕ) (items : List Item) (loads : List Load) (a b : ℕ) (l : Load) → load_on loads a b ≡ Some l → load_on (loads_given d items loads) a b ≡ Some (record l { returned = l.returned + cond (b == d) (count_by (is_from a) items) 0 })
+pub loaded-given : (d : ℕ) (items : List Item) (loads : List Load) (a b : ℕ) (l : Load) → load_on loads a b ≡ Some l → load_on (loads_given d items loads) a b ≡ Some (record l { returned = l.returned + cond (b == d) (length (frames_from a items)) 0 })
 loaded-given d items loads a b l e =
     let ends = load_ends loads a b l e in
-    let f : Load → Load = λ x. cond (x.receiver == d) (with_returned (count_by (is_from x.sender) items) x) x in
+    let f : Load → Load = λ x. cond (x.receiver == d) (with_returned (length (frames_from x.sender items)) x) x in
     loaded-map f (record { sender = λ x. sender_cond x (x.receiver == d); receiver = λ x. receiver_cond x (x.receiver == d) }) loads a b l e
-    ∙ ap (λ n. Some (cond (n == d) (with_returned (count_by (is_from l.sender) items) l) l)) ends.1
-    ∙ ap (λ n. Some (cond (b == d) (with_returned (count_by (is_from n) items) l) l)) ends.0
-    ∙ ap Some (returned_cond (b == d) (count_by (is_from a) items))
+    ∙ ap (λ n. Some (cond (n == d) (with_returned (length (frames_from l.sender items)) l) l)) ends.1
+    ∙ ap (λ n. Some (cond (b == d) (with_returned (length (frames_from n items)) l) l)) ends.0
+    ∙ ap Some (returned_cond (b == d) (length (frames_from a items)))
   where
-    sender_cond : (x : Load) (y : Bool) → (cond y (with_returned (count_by (is_from x.sender) items) x) x).sender ≡ x.sender
+    sender_cond : (x : Load) (y : Bool) → (cond y (with_returned (length (frames_from x.sender items)) x) x).sender ≡ x.sender
     sender_cond x true = refl
     sender_cond x false = refl
 
-    receiver_cond : (x : Load) (y : Bool) → (cond y (with_returned (count_by (is_from x.sender) items) x) x).receiver ≡ x.receiver
+    receiver_cond : (x : Load) (y : Bool) → (cond y (with_returned (length (frames_from x.sender items)) x) x).receiver ≡ x.receiver
     receiver_cond x true = refl
     receiver_cond x false = refl
 
@@ -77,7 +77,7 @@ loaded-given d items loads a b l e =
 
 -- what a call adds to the book of a lane
 abbrev pub called_book : ℕ → List (ℕ × List ℕ) → List Item → ℕ → ℕ → Book → Book
-called_book d ps items a b k = record { puts = k.puts ++ cond (a == d) (frames_for b ps) []; backs = k.backs; taken = k.taken; gives = k.gives + cond (b == d) (count_by (is_from a) items) 0 }
+called_book d ps items a b k = record { puts = k.puts ++ cond (a == d) (frames_for b ps) []; backs = k.backs; taken = k.taken; gives = k.gives + cond (b == d) (length (frames_from a items)) 0 }
 
 places_by : (x y : Bool) (size free held new_free new_held n g : ℕ) (frames : List (List ℕ)) (returned : ℕ) (more : List (List ℕ)) → free + length frames + held + returned ≡ size → length more ≡ n → new_free + cond x n 0 ≡ free → new_held + cond y g 0 ≡ held → new_free + length (frames ++ cond x more []) + new_held + (returned + cond y g 0) ≡ size
 places_by true y size free held new_free new_held n g frames returned more e f h k = omega (arith, e, f, h, k, length-append frames more)
@@ -96,12 +96,12 @@ call_lane states d s ends node call loads size a b k h =
     record {
       sized_out = placed_same (λ x. size_at x b) states d s t a (call_size s node call b) ∙ h.sized_out;
       sized_in = placed_same (λ x. size_at x a) states d s t b (call_size s node call a) ∙ h.sized_in;
-      load = record more { returned = h.load.returned + cond (b == d) (count_by (is_from a) items) 0 };
+      load = record more { returned = h.load.returned + cond (b == d) (length (frames_from a items)) 0 };
       loaded = loaded-given d items (loads_with_puts d ps loads) a b more (loaded-puts d ps loads a b h.load h.loaded);
       front = sym (append_assoc k.taken h.load.frames (cond (a == d) (frames_for b ps) [])) ∙ ap (λ xs. xs ++ cond (a == d) (frames_for b ps) []) h.front;
       shows = omega (arith, h.shows);
       places =
-          places_by (a == d) (b == d) size (free_to (placed states d s a) b) (held_from a (placed states d s b)) (free_to (placed states d t a) b) (held_from a (placed states d t b)) (count_by (goes_to b) ps) (count_by (is_from a) items) h.load.frames h.load.returned (frames_for b ps)
+          places_by (a == d) (b == d) size (free_to (placed states d s a) b) (held_from a (placed states d s b)) (free_to (placed states d t a) b) (held_from a (placed states d t b)) (count_by (goes_to b) ps) (length (frames_from a items)) h.load.frames h.load.returned (frames_for b ps)
           h.places (frames_many b ps) (freed (a == d)) (held (b == d));
       within = omega (arith, h.within, shown, length-append h.load.frames (cond (a == d) (frames_for b ps) []));
     }
@@ -110,6 +110,6 @@ call_lane states d s ends node call loads size a b k h =
     freed true = call_frees s b node call
     freed false = omega arith
 
-    held : (y : Bool) → held_from a (cond y (effect s node call) (states b)) + cond y (count_by (is_from a) (returned s node call)) 0 ≡ held_from a (cond y s (states b))
+    held : (y : Bool) → held_from a (cond y (effect s node call) (states b)) + cond y (length (frames_from a (returned s node call))) 0 ≡ held_from a (cond y s (states b))
     held true = call_holds a s ends node call
     held false = omega arith

@@ -1,12 +1,12 @@
 -- Journals with more entries at their end: the steps, the traffic and the looks of both parts.
-use Rattle.std.proofs.Common.{◌≡◌, ℕ, ◌+◌, ◌≤◌, Bool, true, false, cond, List, [], ◌∷◌, ◌++◌, length, map, sum, count_by, Some, None, refl, ap, ◌∙◌, subst, arith, append_assoc, append-nil, length-append, sym}
+use Rattle.std.proofs.Common.{◌≡◌, ℕ, ◌+◌, ◌≤◌, Bool, true, false, cond, List, [], ◌∷◌, ◌++◌, length, map, sum, Some, None, refl, ap, ◌∙◌, subst, arith, append_assoc, append-nil, length-append, sym}
 use Rattle.std.specs.Prelude.{◌==◌}
 use Rattle.std.proofs.lemmas.List.{map-append, length-map}
 use Rattle.std.proofs.lemmas.List.Concat.{flat_map-append}
 use Rattle.std.proofs.lemmas.List.Sums.{sum_by-append}
 use Rattle.board_model.specs.declared.scenario.CallLine.{CallLine}
 use Rattle.board_model.specs.Journal.{PlainEntry, turned, put, again, waits, called, PlainAnswer, Visit, Taken}
-use Rattle.board_model.specs.State.{is_from}
+use Rattle.board_model.specs.State.{frames_from}
 use Rattle.board_model.specs.Answer.{answer, puts}
 use Rattle.board_model.specs.CallChanges.{effect, returned}
 use Rattle.board_model.specs.Labels.{labels_after}
@@ -104,8 +104,8 @@ sees_call n total t (p ∷ ps) k a = sees_call n total t ps k a
 abbrev pub with_puts : RunState → List (ℕ × List ℕ) → RunState
 with_puts r ps = record r { put_since_turn = Some ps }
 
-pub given_call : (script : List CallLine) (r : RunState) (n : ℕ) (acc ps : List (ℕ × List ℕ)) (k : ℕ) (a : PlainAnswer) (line : CallLine) → next_line script r ≡ Some line → given script (with_puts r acc) n (call_entries ps k a) ≡ count_by (is_from n) (returned r.state line.node (call_at r line))
-given_call script r n acc [] k a line here = omega (arith, ap (λ o. count_by (is_from n) (returned_by o (with_puts r acc))) here)
+pub given_call : (script : List CallLine) (r : RunState) (n : ℕ) (acc ps : List (ℕ × List ℕ)) (k : ℕ) (a : PlainAnswer) (line : CallLine) → next_line script r ≡ Some line → given script (with_puts r acc) n (call_entries ps k a) ≡ length (frames_from n (returned r.state line.node (call_at r line)))
+given_call script r n acc [] k a line here = omega (arith, ap (λ o. length (frames_from n (returned_by o (with_puts r acc)))) here)
 given_call script r n acc (p ∷ ps) k a line here = omega (arith, given_call script r n (acc ++ p ∷ []) ps k a line here)
 
 -- a run after the last call of a line

@@ -1,4 +1,6 @@
 -- What is read of peers as a board runs: their sizes and numbers stay, and what is shown and free is by looks, frames and calls.
+use Rattle.mc_base.specs.Letter.{packet, msg}
+use Rattle.mc_base.specs.Pieces.{frames_needed}
 use Rattle.std.proofs.Common.{◌≡◌, ℕ, ◌+◌, ◌-◌, Bool, true, false, cond, List, [], ◌∷◌, map, length, Option, Some, None, option_map, refl, sym, ap, ◌∙◌}
 use Rattle.std.specs.Prelude.{◌==◌, unwrap_or}
 use Rattle.std.specs.List.{AllByRecursion}
@@ -13,7 +15,7 @@ use Rattle.board_model.specs.DomainCall.{DomainCall, create_at, delete_at, looku
 use Rattle.board_model.specs.Answer.{first_complete, local, refusal, unless_refused}
 use Rattle.board_model.specs.Choice.{oldest}
 use Rattle.board_model.specs.ChannelEnds.{opened_end}
-use Rattle.board_model.specs.Change.{Change, endpoint_gone, best_gone, oldest_gone, channel_set, request_added, waiting_ended, end_announced, buffer_used, channel_given}
+use Rattle.board_model.specs.Change.{Change, endpoint_gone, best_gone, oldest_gone, channel_set, request_added, waiting_ended, end_announced, buffers_used, channel_given}
 use Rattle.board_model.specs.CallChanges.{at_live, new_sender, closing, lending, best_item, success_changes, call_changes, effect}
 use Rattle.board_model.specs.Deeds.{Deed, happens_by, after_deed, after_deeds}
 use Rattle.board_model.specs.Serial.{looks_deeds}
@@ -70,12 +72,12 @@ module _ (s : DomainState) (node n : ℕ) where
   live_shown None f each = tt
   live_shown (Some e) f each = each e
 
-  used_shown : (m : ℕ) → Keeps (λ p. p.shown) s.number n (buffer_used m)
-  used_shown m p = cond-keeps (λ q. q.shown) (m == n) p (record p { free = p.free - 1 }) refl
+  used_shown : (m count : ℕ) → Keeps (λ p. p.shown) s.number n (buffers_used m count)
+  used_shown m count p = cond-keeps (λ q. q.shown) (m == n) p (record p { free = p.free - count }) refl
 
   closing_shown : (side : Side) (e : Endpoint) (c : ChannelEnd) → KeepShown (closing side e c)
-  closing_shown Sender e c = (used_shown c.peer, ((λ p. refl), tt))
-  closing_shown Receiver e c = (used_shown c.peer, ((λ p. refl), ((λ p. refl), tt)))
+  closing_shown Sender e c = (used_shown c.peer 1, ((λ p. refl), tt))
+  closing_shown Receiver e c = (used_shown c.peer 1, ((λ p. refl), ((λ p. refl), tt)))
 
   success_shown : (call : DomainCall) → KeepShown (success_changes s node call)
   success_shown (create_at port) = ((λ p. refl), ((λ p. owed-shown s.number (record { local = local node port; address = 1024 + s.endpoints_given; create = true }) p), ((λ p. refl), tt)))
@@ -83,27 +85,27 @@ module _ (s : DomainState) (node n : ℕ) where
       live_shown (live_at s (local node port)) (λ e. waiting_ended e.address EndpInvalid ∷ endpoint_gone e.address ∷ end_announced (record { local = e.local; address = e.address; create = false }) ∷ [])
       (λ e. ((λ p. refl), ((λ p. refl), ((λ p. owed-shown s.number (record { local = e.local; address = e.address; create = false }) p), tt))))
   success_shown (lookup_of name) = ((λ p. refl), tt)
-  success_shown (send_from port to priority bytes) = (used_shown to.domain, tt)
+  success_shown (send_from port to priority bytes) = (used_shown to.domain (frames_needed (msg priority bytes)), tt)
   success_shown (receive_at port max) = live_shown (live_at s (local node port)) (λ e. best_gone e.address ∷ []) (λ e. ((λ p. refl), tt))
   success_shown (request_at port max) =
       live_shown (live_at s (local node port)) (λ e. best_gone e.address ∷ request_added (message_at e.local max) (option_map has_item (best_item e)) ∷ []) (λ e. ((λ p. refl), ((λ p. refl), tt)))
   success_shown (available_at port) = tt
   success_shown (connect_from port to kind) =
-      live_shown (live_at s (local node port)) (λ e. buffer_used to.domain ∷ channel_set e.address (Some (new_sender s to kind)) ∷ request_added (channel_of (s.channels_given + 1)) None ∷ channel_given ∷ [])
-      (λ e. (used_shown to.domain, ((λ p. refl), ((λ p. refl), ((λ p. refl), tt)))))
-  success_shown (open_at port side kind) = end-holds KeepShown tt (live_at s (local node port)) (λ e c. buffer_used c.peer ∷ channel_set e.address (Some (opened_end c)) ∷ []) (λ e c live has. (used_shown c.peer, ((λ p. refl), tt)))
-  success_shown (packet_from port bytes) = end-holds KeepShown tt (live_at s (local node port)) (λ e c. buffer_used c.peer ∷ []) (λ e c live has. (used_shown c.peer, tt))
+      live_shown (live_at s (local node port)) (λ e. buffers_used to.domain 1 ∷ channel_set e.address (Some (new_sender s to kind)) ∷ request_added (channel_of (s.channels_given + 1)) None ∷ channel_given ∷ [])
+      (λ e. (used_shown to.domain 1, ((λ p. refl), ((λ p. refl), ((λ p. refl), tt)))))
+  success_shown (open_at port side kind) = end-holds KeepShown tt (live_at s (local node port)) (λ e c. buffers_used c.peer 1 ∷ channel_set e.address (Some (opened_end c)) ∷ []) (λ e c live has. (used_shown c.peer 1, ((λ p. refl), tt)))
+  success_shown (packet_from port bytes) = end-holds KeepShown tt (live_at s (local node port)) (λ e c. buffers_used c.peer (frames_needed (packet c.number bytes)) ∷ []) (λ e c live has. (used_shown c.peer (frames_needed (packet c.number bytes)), tt))
   success_shown (lend_at port) = live_shown (live_at s (local node port)) (λ e. oldest_gone e.address ∷ lending (oldest e.queue)) (λ e. ((λ p. refl), lending-holds (Keeps (λ p. p.shown) s.number n) (λ i p. refl) (oldest e.queue)))
   success_shown (packet_request_at port) =
       live_shown (live_at s (local node port)) (λ e. oldest_gone e.address ∷ request_added (packet_at e.local) (option_map has_item (oldest e.queue)) ∷ []) (λ e. ((λ p. refl), ((λ p. refl), tt)))
   success_shown (release_of place) = ((λ p. refl), tt)
-  success_shown (scalar_from port bits value) = end-holds KeepShown tt (live_at s (local node port)) (λ e c. buffer_used c.peer ∷ []) (λ e c live has. (used_shown c.peer, tt))
+  success_shown (scalar_from port bits value) = end-holds KeepShown tt (live_at s (local node port)) (λ e c. buffers_used c.peer 1 ∷ []) (λ e c live has. (used_shown c.peer 1, tt))
   success_shown (scalar_at port bits) = live_shown (live_at s (local node port)) (λ e. oldest_gone e.address ∷ []) (λ e. ((λ p. refl), tt))
   success_shown (close_at port side) = end-holds KeepShown tt (live_at s (local node port)) (closing side) (λ e c live has. closing_shown side e c)
   success_shown (test_of request) = ((λ p. refl), tested-holds (Keeps (λ p. p.shown) s.number n) (λ i p. refl) (request_at_place s request))
   success_shown (wait_for requests says_place) = ((λ p. refl), tested-holds (Keeps (λ p. p.shown) s.number n) (λ i p. refl) (request_at_place s (first_complete s requests)))
   success_shown (cancel_of request) = ((λ p. refl), tt)
-  success_shown (raw_to to bytes) = (used_shown to, tt)
+  success_shown (raw_to to bytes) = (used_shown to 1, tt)
   success_shown turn_alone = tt
 
   keep_shown : (call : DomainCall) → KeepShown (call_changes s node call)

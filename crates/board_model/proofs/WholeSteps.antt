@@ -1,11 +1,11 @@
 -- A board that runs serially goes on through turns, calls that are made again, and last calls.
-use Rattle.std.proofs.Common.{◌≡◌, ℕ, ◌+◌, Bool, true, false, ◌&&◌, cond, List, [], ◌∷◌, ◌++◌, length, sum, Option, Some, None, slice_get, refl, sym, ap, ap₂, ◌∙◌, subst, inl, inr, arith, append-nil, eq-eqb, count_by}
+use Rattle.std.proofs.Common.{◌≡◌, ℕ, ◌+◌, Bool, true, false, ◌&&◌, cond, List, [], ◌∷◌, ◌++◌, length, sum, Option, Some, None, slice_get, refl, sym, ap, ap₂, ◌∙◌, subst, inl, inr, arith, append-nil, eq-eqb}
 use Rattle.std.specs.Prelude.{◌==◌, IsSome}
 use Rattle.std.specs.List.{AllByRecursion}
 use Rattle.std.proofs.lemmas.Bool.{ne_eqb}
 use Rattle.std.proofs.lemmas.Bool.Decides.{eqb_tells}
 use Rattle.board_model.proofs.WaitCalls.{wait-puts, wait-untried}
-use Rattle.board_model.specs.State.{is_from}
+use Rattle.board_model.specs.State.{frames_from}
 use Rattle.board_model.specs.declared.scenario.CallLine.{CallLine}
 use Rattle.board_model.specs.declared.scenario.Scenario.{Scenario}
 use Rattle.board_model.specs.Scenario.{script}
@@ -58,12 +58,12 @@ pub record Fresh (s : Scenario) (counts made : ℕ → ℕ) (d : ℕ) (r : Runni
   pub going : Going s (Joined s) counts made r
   pub fresh : (t : Station) → station r d ≡ Some t → t.run.put_since_turn ≡ Some []
 
-turned_adds : (s : Scenario) (d : ℕ) (t : Station) (vs : List Visit) (a b : ℕ) (k : Book) → Adds s d t (turned vs ∷ []) a b k (turned_book d vs a b k)
+turned_adds : (s : Scenario) (d : ℕ) (t : Station) (vs : List Visit) (a b : ℕ) (k : Book) → Adds s d t (turned vs ∷ []) a b k (turned_book d t.run.state vs a b k)
 turned_adds s d t vs a b k = record {
-  puts = turned_puts d vs a b k ∙ ap (λ xs. k.puts ++ cond (a == d) xs []) (sym (append-nil (puts_in b (turned vs))));
-  backs = turned_backs d vs a b k ∙ ap (λ xs. k.backs + cond (a == d) (sum xs) 0) (sym (append-nil (backs_in b (turned vs))));
-  taken = turned_taken d vs a b k ∙ ap (λ xs. k.taken ++ cond (b == d) (frames_of xs) []) (sym (append-nil (takes_in a (turned vs))));
-  gives = turned_gives d vs a b k ∙ ap (λ n. k.gives + cond (b == d) n 0) (omega arith);
+  puts = turned_puts d t.run.state vs a b k ∙ ap (λ xs. k.puts ++ cond (a == d) xs []) (sym (append-nil (puts_in b (turned vs))));
+  backs = turned_backs d t.run.state vs a b k ∙ ap (λ xs. k.backs + cond (a == d) (sum xs) 0) (sym (append-nil (backs_in b (turned vs))));
+  taken = turned_taken d t.run.state vs a b k ∙ ap (λ xs. k.taken ++ cond (b == d) (frames_of xs) []) (sym (append-nil (takes_in a (turned vs))));
+  gives = turned_gives d t.run.state vs a b k ∙ ap (λ n. k.gives + cond (b == d) n 0) (omega arith);
 }
 
 pub turn_goes : (s : Scenario) (counts made : ℕ → ℕ) (r : Running) (d : ℕ) → Going s (Joined s) counts made r → Fresh s counts made d (turned_once s r d)
@@ -93,8 +93,8 @@ turn_goes s counts made r d h = go (station r d) refl
         } in
         record {
           going =
-              goes_on s (Joined s) counts made counts made r d t (turned vs ∷ []) (loads_turned st r.loads) (λ a b. turned_book d vs a b (book_of s r a b)) h e new (λ n differ. (refl, refl)) turns.lanes
-              (λ a b. turned_adds s d t vs a b (book_of s r a b)) (λ a size j. (turns.sees a (length (turned_book d vs a d (book_of s r a d)).puts) (omega arith), tt));
+              goes_on s (Joined s) counts made counts made r d t (turned vs ∷ []) (loads_turned st r.loads) (λ a b. turned_book d t.run.state vs a b (book_of s r a b)) h e new (λ n differ. (refl, refl)) turns.lanes
+              (λ a b. turned_adds s d t vs a b (book_of s r a b)) (λ a size j. (turns.sees a (length (turned_book d t.run.state vs a d (book_of s r a d)).puts) (omega arith), tt));
           fresh = λ u here.
               put_of (sym (ap (λ b. cond b (Some (entered_all s (turned vs ∷ []) t)) (station r d)) (eq-eqb d d refl)) ∙ sym (station_after s d (turned vs ∷ []) (record r { loads = loads_turned st r.loads }) t e d) ∙ here) refl;
         }
@@ -256,6 +256,6 @@ wait_call_goes s counts r line t limit h e here is_wait ends =
       puts = refl;
       backs = none_more (a == d) (book_of s r a b).backs;
       taken = no_more (b == d) (book_of s r a b).taken;
-      gives = ap (λ n. (book_of s r a b).gives + cond (b == d) n 0) (sym (omega (arith, ap (λ o. count_by (is_from a) (returned_by o t.run)) next)));
+      gives = ap (λ n. (book_of s r a b).gives + cond (b == d) n 0) (sym (omega (arith, ap (λ o. length (frames_from a (returned_by o t.run))) next)));
     })
     (λ a size j. tt))

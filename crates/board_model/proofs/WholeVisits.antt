@@ -5,14 +5,15 @@ use Rattle.board_model.specs.Journal.{Visit}
 use Rattle.board_model.specs.State.{DomainState, Peer, peer_of, free_to, held_from, owed_to}
 use Rattle.board_model.specs.Deeds.{after_deeds}
 use Rattle.board_model.specs.Turn.{turn_limit, after_visit, IsVisit}
-use Rattle.board_model.specs.Serial.{due_to, looks_deeds}
-use Rattle.board_model.specs.Loads.{Load, frames_in, returned_in, returned_on, frames_due, after_owed, frames_seen, visit_to, loads_visited}
-use Rattle.board_model.proofs.VisitLooks.{after_looks, HaveWords, visit-after, visit-may, looks-keep}
+use Rattle.board_model.specs.Serial.{due_to, looks_deeds, returned_at_once}
+use Rattle.board_model.specs.Loads.{Load, frames_in, returned_in, returned_on, frames_due, after_owed, frames_seen, with_load, visit_to, loads_visited}
+use Rattle.board_model.proofs.VisitLooks.{after_looks, after_takes, HaveWords, visit-after, visit-may, looks-keep}
 use Rattle.board_model.proofs.SerialFrames.{dealt_words, length-dealt, frames-dealt}
 use Rattle.board_model.proofs.WholeFinds.{some_tells}
 use Rattle.board_model.proofs.WholePeers.{size_at, shown_at}
 use Rattle.board_model.proofs.WholeLanes.{Book, LaneOk, placed, placed-own, LooksFit, looked_book, looks_lane, shown_own, refilled_more}
-use Rattle.board_model.proofs.WholeTakes.{TakesFit, taken_book, takes_lane}
+use Rattle.board_model.proofs.WholeTakes.{TakesFit, taken_book, emptied, takes_lane}
+use Rattle.board_model.proofs.LaneRuns.{visit-gives}
 
 -- ---- the visit
 
@@ -54,14 +55,14 @@ takes_fit s loads p size sized = record {
 }
 
 -- what a visit adds to the book of a lane
-abbrev pub visited_book : ℕ → Visit → ℕ → ℕ → Book → Book
-visited_book d v a b k = taken_book ((a == v.peer) && (b == d)) v.takes (looked_book ((a == d) && (b == v.peer)) v k)
+abbrev pub visited_book : ℕ → DomainState → Visit → ℕ → ℕ → Book → Book
+visited_book d s v a b k = taken_book ((a == v.peer) && (b == d)) (returned_at_once s v) v.takes (looked_book ((a == d) && (b == v.peer)) v k)
 
 -- a visit is allowed, leaves the lanes well, and sees what is put and not taken
 pub record Visited (Joined : ℕ → ℕ → ℕ → Type 0) (states : ℕ → DomainState) (d : ℕ) (s : DomainState) (books : ℕ → ℕ → Book) (loads : List Load) (p : ℕ) : Type 0 where
   pub is_visit : IsVisit s (visit_to s loads p)
-  pub lanes : AllOk Joined (placed states d (after_visit s (visit_to s loads p))) (λ a b. visited_book d (visit_to s loads p) a b (books a b)) (loads_visited s loads p)
-  pub sees : (visit_to s loads p).see + length (books p d).taken ≡ length (visited_book d (visit_to s loads p) p d (books p d)).puts
+  pub lanes : AllOk Joined (placed states d (after_visit s (visit_to s loads p))) (λ a b. visited_book d s (visit_to s loads p) a b (books a b)) (loads_visited s loads p)
+  pub sees : (visit_to s loads p).see + length (books p d).taken ≡ length (visited_book d s (visit_to s loads p) p d (books p d)).puts
 
 visit_here : (Joined : ℕ → ℕ → ℕ → Type 0) → ((a b size : ℕ) → Joined a b size → Joined b a size) → (states : ℕ → DomainState) (s : DomainState) (books : ℕ → ℕ → Book) (loads : List Load) (p size : ℕ) → Joined s.number p size → AllOk Joined (placed states s.number s) books loads → Visited Joined states s.number s books loads p
 visit_here Joined turn states s books loads p size joined h =
@@ -92,8 +93,9 @@ visit_here Joined turn states s books loads p size joined h =
         may = visit-may s v t.0 t.1 (ap (λ o. due_to d o v.back) t.1) (visit_words s loads p);
       };
       lanes =
-          subst (λ t. AllOk Joined (placed states d t) (λ a b. visited_book d v a b (books a b)) (loads_visited s loads p)) (sym (visit-after s v))
-          (λ a b z j. takes_lane states d (after_looks s v) p v.takes (after_owed s loads p) (takes_fit s loads p size sized) z a b (looked_book ((a == d) && (b == p)) v (books a b)) (looked a b z j));
+          subst (λ t. AllOk Joined (placed states d t) (λ a b. visited_book d s v a b (books a b)) (loads_visited s loads p)) (sym (visit-after s v))
+          (λ a b z j. subst (λ g. LaneOk z a b (placed states d (after_takes (after_looks s v) p v.takes) a) (placed states d (after_takes (after_looks s v) p v.takes) b) (taken_book ((a == p) && (b == d)) g v.takes (looked_book ((a == d) && (b == p)) v (books a b))) (with_load p d (emptied g v.takes) (after_owed s loads p))) (sym (ap length (visit-gives p s v)))
+          (takes_lane states d (after_looks s v) p v.takes (after_owed s loads p) (takes_fit s loads p size sized) z a b (looked_book ((a == d) && (b == p)) v (books a b)) (looked a b z j)));
       sees = omega (arith, lane, ap length seen.front, length-append (books p d).taken seen.load.frames);
     }
 

@@ -88,6 +88,8 @@ fate-read fate.Handed = refl
 fate-read fate.Queued = refl
 fate-read fate.Closed = refl
 fate-read fate.State = refl
+fate-read fate.Part = refl
+fate-read fate.Stray = refl
 
 pub reason-read : (r : Reason) → reason_in (reason_text r) ≡ Some r
 reason-read NoEndpoint = refl

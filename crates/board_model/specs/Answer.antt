@@ -1,13 +1,14 @@
 -- The answer of a call: the first refusal whose condition holds, or else the answer of success.
 -- Source: docs/PROFILE.md, "Calls" and "Words of refusal". E is the endpoint of the line's domain, node and port.
 use Rattle.std.specs.Prelude.{ℕ, ◌+◌, Bool, true, false, not, ◌||◌, List, [], ◌∷◌, map, length, take, nat_lt, nat_le, ◌==◌, find, position, option_map, option_and_then, Option, None, Some, is_none, is_some, unwrap_or, if◌then◌else◌}
-use Rattle.std.specs.List.{list_all, list_any}
+use Rattle.std.specs.List.{list_all, list_any, flat_map}
 use Rattle.byteorder.specs.Endian.{little_number}
 use Rattle.mc_base.specs.Limits.{item_size, first_address, record_limit, creation_limit, request_limit}
 use Rattle.mc_base.specs.NameMap.{address_in}
 use Rattle.mc_base.specs.Fault.{fault}
 use Rattle.mc_base.specs.Frame.{made}
-use Rattle.mc_base.specs.Letter.{PlainLetter, spelling, bytes_of_bits, msg, connect, packet, scalar, send_open, recv_open, send_close, recv_close}
+use Rattle.mc_base.specs.Pieces.{spellings}
+use Rattle.mc_base.specs.Letter.{PlainLetter, bytes_of_bits, msg, connect, packet, scalar, send_open, recv_open, send_close, recv_close}
 use Rattle.mc_base.specs.declared.name.Local.{Local}
 use Rattle.mc_base.specs.declared.name.EndName.{EndName}
 use Rattle.mc_base.specs.declared.channel.Kind.TheVariants.{Packet, Scalar}
@@ -112,9 +113,12 @@ pub record Post : Type 0 where
 abbrev pub post : ℕ → ℕ → ℕ → PlainLetter → Post
 post peer source destination letter = record { peer = peer; source = source; destination = destination; letter = letter }
 
--- its frame, with its peer
-abbrev pub put_of : Post → ℕ × List ℕ
-put_of p = (p.peer, made p.source p.destination (spelling p.letter))
+-- its frames, each with its peer: one, or those of its parts
+abbrev pub put_as : Post → List ℕ → ℕ × List ℕ
+put_as p payload = (p.peer, made p.source p.destination payload)
+
+abbrev pub puts_of : Post → List (ℕ × List ℕ)
+puts_of p = map (put_as p) (spellings p.letter)
 
 -- from E over its channel, to the address of the far end
 abbrev pub over_channel : Option Endpoint → Option ChannelEnd → (ℕ → PlainLetter) → List Post
@@ -208,7 +212,7 @@ success_posts s node other = []
 -- the frames that success puts, each with its peer: those of its letters, and a raw frame as it is
 abbrev pub success_puts : DomainState → ℕ → DomainCall → List (ℕ × List ℕ)
 success_puts s node (raw_to to bytes) = (to, bytes) ∷ []
-success_puts s node other = map put_of (success_posts s node other)
+success_puts s node other = flat_map puts_of (success_posts s node other)
 
 -- whether the lane to a peer has fewer buffers free than these frames need
 abbrev pub lacks_buffers : DomainState → List (ℕ × List ℕ) → Bool

@@ -3,6 +3,8 @@
 use Rattle.std.specs.Prelude.{ℕ, ◌+◌, true, false, List, [], ◌∷◌, Option, None, Some, option_map, option_to_list, unwrap_or}
 use Rattle.mc_base.specs.Limits.{first_address}
 use Rattle.mc_base.specs.FullName.{end_name}
+use Rattle.mc_base.specs.Letter.{msg, packet}
+use Rattle.mc_base.specs.Pieces.{frames_needed}
 use Rattle.mc_base.specs.declared.name.EndName.{EndName}
 use Rattle.mc_base.specs.declared.channel.Kind.{Kind}
 use Rattle.mc_base.specs.declared.channel.Side.{Side}
@@ -11,7 +13,7 @@ use Rattle.mc_base.specs.declared.refusal.Refusal.TheVariants.{EndpInvalid, Chan
 use Rattle.board_model.specs.Choice.{best, oldest}
 use Rattle.board_model.specs.DomainCall.{DomainCall, create_at, delete_at, lookup_of, send_from, receive_at, request_at, available_at, connect_from, open_at, packet_from, lend_at, packet_request_at, release_of, scalar_from, scalar_at, close_at, test_of, wait_for, cancel_of, raw_to, turn_alone}
 use Rattle.board_model.specs.State.{Item, ChannelEnd, Endpoint, Asked, Outcome, Request, LentPacket, name_of, channel_of, message_at, packet_at, has_address, has_item, item_in, DomainState, live_at, request_at_place, packet_at_place}
-use Rattle.board_model.specs.Change.{Change, endpoint_made, endpoint_gone, best_gone, oldest_gone, channel_set, queue_dropped, request_added, waiting_ended, name_found, request_gone, end_announced, buffer_used, packet_lent, packet_gone, channel_given, changed_all}
+use Rattle.board_model.specs.Change.{Change, endpoint_made, endpoint_gone, best_gone, oldest_gone, channel_set, queue_dropped, request_added, waiting_ended, name_found, request_gone, end_announced, buffers_used, packet_lent, packet_gone, channel_given, changed_all}
 use Rattle.board_model.specs.ChannelEnds.{connecting_end, opened_end, closed_end}
 use Rattle.board_model.specs.Answer.{local, address_of, first_complete, refusal, unless_refused}
 
@@ -39,8 +41,8 @@ new_sender s to kind = connecting_end kind s.number (s.channels_given + 1) to.do
 
 -- an end closes. At the receiver's end, pending receives are completed with a word, and all queued items are dropped
 abbrev pub closing : Side → Endpoint → ChannelEnd → List Change
-closing Sender e c = buffer_used c.peer ∷ channel_set e.address (closed_end c) ∷ []
-closing Receiver e c = buffer_used c.peer ∷ waiting_ended e.address ChanClosed ∷ queue_dropped e.address (closed_end c) ∷ []
+closing Sender e c = buffers_used c.peer 1 ∷ channel_set e.address (closed_end c) ∷ []
+closing Receiver e c = buffers_used c.peer 1 ∷ waiting_ended e.address ChanClosed ∷ queue_dropped e.address (closed_end c) ∷ []
 
 -- a packet that a receive takes is lent, and so is one whose request is tested
 abbrev pub lending : Option Item → List Change
@@ -72,7 +74,7 @@ success_changes s node (delete_at port) = at_live (live_at s (local node port)) 
     ∷ end_announced (record { local = e.local; address = e.address; create = false })
     ∷ [])
 success_changes s node (lookup_of name) = request_added (name_of name) (option_map has_address (address_of s name)) ∷ []
-success_changes s node (send_from port to priority bytes) = buffer_used to.domain ∷ []
+success_changes s node (send_from port to priority bytes) = buffers_used to.domain (frames_needed (msg priority bytes)) ∷ []
 success_changes s node (receive_at port max) = at_live (live_at s (local node port)) (λ e. best_gone e.address ∷ [])
 success_changes s node (request_at port max) = at_live (live_at s (local node port)) (λ e.
     best_gone e.address
@@ -80,26 +82,26 @@ success_changes s node (request_at port max) = at_live (live_at s (local node po
     ∷ [])
 success_changes s node (available_at port) = []
 success_changes s node (connect_from port to kind) = at_live (live_at s (local node port)) (λ e.
-    buffer_used to.domain
+    buffers_used to.domain 1
     ∷ channel_set e.address (Some (new_sender s to kind))
     ∷ request_added (channel_of (s.channels_given + 1)) None
     ∷ channel_given
     ∷ [])
-success_changes s node (open_at port side kind) = at_end (live_at s (local node port)) (λ e c. buffer_used c.peer ∷ channel_set e.address (Some (opened_end c)) ∷ [])
-success_changes s node (packet_from port bytes) = at_end (live_at s (local node port)) (λ e c. buffer_used c.peer ∷ [])
+success_changes s node (open_at port side kind) = at_end (live_at s (local node port)) (λ e c. buffers_used c.peer 1 ∷ channel_set e.address (Some (opened_end c)) ∷ [])
+success_changes s node (packet_from port bytes) = at_end (live_at s (local node port)) (λ e c. buffers_used c.peer (frames_needed (packet c.number bytes)) ∷ [])
 success_changes s node (lend_at port) = at_live (live_at s (local node port)) (λ e. oldest_gone e.address ∷ lending (oldest e.queue))
 success_changes s node (packet_request_at port) = at_live (live_at s (local node port)) (λ e.
     oldest_gone e.address
     ∷ request_added (packet_at e.local) (option_map has_item (oldest e.queue))
     ∷ [])
 success_changes s node (release_of place) = packet_gone place ∷ []
-success_changes s node (scalar_from port bits value) = at_end (live_at s (local node port)) (λ e c. buffer_used c.peer ∷ [])
+success_changes s node (scalar_from port bits value) = at_end (live_at s (local node port)) (λ e c. buffers_used c.peer 1 ∷ [])
 success_changes s node (scalar_at port bits) = at_live (live_at s (local node port)) (λ e. oldest_gone e.address ∷ [])
 success_changes s node (close_at port side) = at_end (live_at s (local node port)) (closing side)
 success_changes s node (test_of request) = tested s request
 success_changes s node (wait_for requests says_place) = tested s (first_complete s requests)
 success_changes s node (cancel_of request) = request_gone request ∷ []
-success_changes s node (raw_to to bytes) = buffer_used to ∷ []
+success_changes s node (raw_to to bytes) = buffers_used to 1 ∷ []
 success_changes s node turn_alone = []
 
 abbrev pub call_changes : DomainState → ℕ → DomainCall → List Change

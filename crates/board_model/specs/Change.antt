@@ -10,7 +10,7 @@ use Rattle.mc_base.specs.declared.name.EndName.{EndName}
 use Rattle.mc_base.specs.declared.refusal.Refusal.{Refusal}
 use Rattle.board_model.specs.Lists.{without, changed_first, with_rising}
 use Rattle.board_model.specs.Choice.{without_best}
-use Rattle.board_model.specs.State.{Item, ChannelEnd, Endpoint, Asked, name_of, channel_of, Outcome, has_address, has_item, has_ended, Request, LentPacket, Announcement, Reply, Peer, DomainState, has_address_of, endpoint_of, waits_at, is_numbered, is_owed_end}
+use Rattle.board_model.specs.State.{Item, ChannelEnd, Endpoint, Asked, name_of, channel_of, Outcome, has_address, has_item, has_ended, Request, LentPacket, Announcement, Reply, Part, HeldFrame, holds_from, Peer, DomainState, has_address_of, endpoint_of, waits_at, is_numbered, is_owed_end}
 
 pub data Change : Type 0 where
   -- an endpoint of this name is made; the one with this address is gone, with all that is queued there
@@ -42,14 +42,15 @@ pub data Change : Type 0 where
   reply_owed : ℕ → Reply → Change
   -- the first frame that is owed to the peer is put
   owed_put : ℕ → Change
-  -- this many buffers came back from the peer; this many of its frames are shown; the oldest of these is taken
+  -- this many buffers came back from the peer; this many of its frames are shown; the oldest of these is taken, and
+  -- after it this part of the peer is open, with the frames of these names
   buffers_back : ℕ → ℕ → Change
   frames_shown : ℕ → ℕ → Change
-  frame_taken : ℕ → Change
+  frame_taken : ℕ → Option Part → List ℕ → Change
   -- these names are known of the peer
   names_known : ℕ → Names → Change
-  -- one buffer of the lane to the peer is used
-  buffer_used : ℕ → Change
+  -- this many buffers of the lane to the peer are used
+  buffers_used : ℕ → ℕ → Change
   -- a packet is lent, and the one at this place is no longer
   packet_lent : Item → Change
   packet_gone : Option ℕ → Change
@@ -141,9 +142,9 @@ peers_after (reply_owed n r) s = at_peer n (λ p. record p { replies = p.replies
 peers_after (owed_put n) s = at_peer n first_put s.peers
 peers_after (buffers_back n count) s = at_peer n (λ p. record p { free = p.free + count }) s.peers
 peers_after (frames_shown n count) s = at_peer n (λ p. record p { shown = count }) s.peers
-peers_after (frame_taken n) s = at_peer n (λ p. record p { shown = p.shown - 1 }) s.peers
+peers_after (frame_taken n part names) s = at_peer n (λ p. record p { shown = p.shown - 1; part = part }) s.peers
 peers_after (names_known n names) s = at_peer n (λ p. record p { known = names }) s.peers
-peers_after (buffer_used n) s = at_peer n (λ p. record p { free = p.free - 1 }) s.peers
+peers_after (buffers_used n count) s = at_peer n (λ p. record p { free = p.free - count }) s.peers
 peers_after other s = s.peers
 
 -- ---- lent packets
@@ -152,6 +153,15 @@ abbrev pub lent_after : Change → DomainState → List LentPacket
 lent_after (packet_lent i) s = s.lent ++ record { serial = s.packets_lent; item = i } ∷ []
 lent_after (packet_gone place) s = without place s.lent
 lent_after other s = s.lent
+
+-- ---- frames in open parts
+
+abbrev pub held_as : ℕ → ℕ → HeldFrame
+held_as peer name = record { peer = peer; name = name }
+
+abbrev pub held_after : Change → DomainState → List HeldFrame
+held_after (frame_taken n part names) s = filter (λ h. not (holds_from n h)) s.held ++ map (held_as n) names
+held_after other s = s.held
 
 -- ---- records of endpoints that are gone, and counts
 
@@ -190,6 +200,7 @@ changed s c = record {
   peers = peers_after c s;
   requests = requests_after c s;
   lent = lent_after c s;
+  held = held_after c s;
   endpoints_given = endpoints_given_after c s.endpoints_given;
   channels_given = channels_given_after c s.channels_given;
   requests_given = requests_given_after c s.requests_given;

@@ -5,7 +5,7 @@ use Rattle.std.specs.Prelude.{◌≡◌, ◌⊎◌, ℕ, Bool, true, false, ◌&
 use Rattle.std.specs.List.{flat_map, AllByRecursion}
 use Rattle.byteorder.specs.Endian.{little_bytes}
 use Rattle.mc_base.specs.Letter.{PlainLetter, packet, scalar, bytes_of_bits}
-use Rattle.mc_base.specs.Reading.{Reading, says, reading}
+use Rattle.mc_base.specs.Reading.{Reading, says}
 use Rattle.mc_base.specs.declared.channel.Side.TheVariants.{Receiver}
 use Rattle.mc_base.specs.declared.fate.Fate.{Fate}
 use Rattle.mc_base.specs.declared.fate.Fate.TheVariants.{Closed, Handed, Queued}
@@ -15,11 +15,12 @@ use Rattle.board_model.specs.Journal.{agrees, tells}
 use Rattle.board_model.specs.DomainCall.{packet_from, scalar_from, close_at}
 use Rattle.board_model.specs.State.{Item, Endpoint, ChannelEnd, DomainState, live_at}
 use Rattle.board_model.specs.Answer.{local, channel_at}
+use Rattle.board_model.specs.Parts.{said_from}
 use Rattle.board_model.specs.CallChanges.{at_live, at_end}
 use Rattle.board_model.specs.Deeds.{Deed, takes, calls, along, after_deeds, EachDeed}
 use Rattle.board_model.specs.Board.{DomainJournal}
 use Rattle.board_model.specs.JournalDeeds.{deeds_of, opened, left_in}
-use Rattle.board_model.specs.Messages.{ring_frames}
+use Rattle.board_model.specs.Messages.{ring_says}
 use Rattle.board_model.specs.Takings.{takings_in}
 
 -- ---- accepted: the contents of the sends that answer ok, at the end with the number
@@ -75,7 +76,7 @@ is_lost Closed = true
 is_lost other = false
 
 abbrev pub lost_by : ℕ → ℕ → DomainState → Deed → List (List ℕ)
-lost_by owner number s (takes peer name frame word) = if is_lost word && peer == owner then data_said number (reading frame) else []
+lost_by owner number s (takes peer name frame word) = if is_lost word && peer == owner then data_said number (said_from s peer frame) else []
 lost_by owner number s (calls node (close_at port Receiver) (tells count)) = at_live (live_at s (local node port)) (λ e. contents_of owner number e.queue)
 lost_by owner number s other = []
 
@@ -96,7 +97,7 @@ items_queued s js owner number = flat_map (queued_in s owner number) js
 -- ---- in the ring: those whose frames were put by the owner and not taken
 
 abbrev pub data_on : List DomainJournal → ℕ → ℕ → Lane → List (List ℕ)
-data_on js owner number l = if l.sender == owner then flat_map (λ f. data_said number (reading f)) (ring_frames js l) else []
+data_on js owner number l = if l.sender == owner then flat_map (data_said number) (ring_says js l) else []
 
 abbrev pub items_in_ring : Scenario → List DomainJournal → ℕ → ℕ → List (List ℕ)
 items_in_ring s js owner number = flat_map (data_on js owner number) (lanes s)
@@ -115,7 +116,7 @@ arrives Queued = true
 arrives other = false
 
 abbrev pub words_by : ℕ → ℕ → DomainState → Deed → List Fate
-words_by owner number s (takes peer name frame word) = if peer == owner then map (λ content. word) (data_said number (reading frame)) else []
+words_by owner number s (takes peer name frame word) = if peer == owner then map (λ content. word) (data_said number (said_from s peer frame)) else []
 words_by owner number s other = []
 
 abbrev pub words_in : Scenario → ℕ → ℕ → DomainJournal → List Fate

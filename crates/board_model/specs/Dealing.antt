@@ -51,4 +51,5 @@ is_message frame = is_letter frame && slice_index (payload_of frame) 2 == 1
 abbrev pub keeps_buffer : Fate → Bool
 keeps_buffer fate.Queued = true
 keeps_buffer fate.Handed = true
+keeps_buffer fate.Part = true
 keeps_buffer other = false

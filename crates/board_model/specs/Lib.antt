@@ -13,6 +13,8 @@ pub mod WordTables
 pub mod LinkedBoard
 pub mod Journal
 pub mod State
+pub mod Parts
+pub mod Returns
 pub mod Queues
 pub mod Renamed
 pub mod Unnamed
@@ -61,3 +63,4 @@ pub mod Unjoined
 pub mod JournalForm
 pub mod JournalParts
 pub mod JournalLaws
+pub mod Fragments

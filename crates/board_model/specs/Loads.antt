@@ -1,9 +1,9 @@
 -- What is on the lanes of a board that runs, and turns whose looks show all of it.
 -- Source: docs/PROFILE.md, "Serial run".
-use Rattle.std.specs.Prelude.{ℕ, ◌+◌, min, ◌&&◌, ◌==◌, Bool, List, [], ◌∷◌, ◌++◌, length, take, drop, map, find, count_by, Option, None, Some, if◌then◌else◌}
+use Rattle.std.specs.Prelude.{ℕ, ◌+◌, min, ◌&&◌, ◌==◌, Bool, List, [], ◌∷◌, ◌++◌, length, take, drop, map, find, Option, None, Some, if◌then◌else◌}
 use Rattle.board_model.specs.Scenario.{Lane}
 use Rattle.board_model.specs.Journal.{Visit}
-use Rattle.board_model.specs.State.{DomainState, Item, is_from, peer_of}
+use Rattle.board_model.specs.State.{DomainState, Item, frames_from, peer_of}
 use Rattle.board_model.specs.Turn.{turn_limit, after_visit}
 use Rattle.board_model.specs.Serial.{due_to, visit_of, returned_at_once}
 
@@ -70,7 +70,7 @@ abbrev pub visit_to : DomainState → List Load → ℕ → Visit
 visit_to s loads peer = visit_of s peer (returned_on loads s.number peer) (frames_due s loads peer) (length (frames_seen s loads peer)) (take (min turn_limit (length (frames_seen s loads peer))) (frames_seen s loads peer))
 
 abbrev pub loads_visited : DomainState → List Load → ℕ → List Load
-loads_visited s loads peer = with_load peer s.number (λ l. with_returned (returned_at_once (visit_to s loads peer).takes) (with_taken (length (visit_to s loads peer).takes) l)) (after_owed s loads peer)
+loads_visited s loads peer = with_load peer s.number (λ l. with_returned (returned_at_once s (visit_to s loads peer)) (with_taken (length (visit_to s loads peer).takes) l)) (after_owed s loads peer)
 
 -- the visits to peers one after the other
 abbrev pub visits_to_all : DomainState → List Load → List ℕ → List Visit
@@ -96,4 +96,4 @@ loads_put domain peer frame loads = with_load domain peer (with_frames (frame �
 
 -- buffers of items that a domain gives back
 abbrev pub loads_given : ℕ → List Item → List Load → List Load
-loads_given domain items loads = map (λ l. if l.receiver == domain then with_returned (count_by (is_from l.sender) items) l else l) loads
+loads_given domain items loads = map (λ l. if l.receiver == domain then with_returned (length (frames_from l.sender items)) l else l) loads

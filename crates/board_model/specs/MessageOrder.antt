@@ -17,6 +17,7 @@ use Rattle.board_model.specs.Choice.{best}
 use Rattle.board_model.specs.Answer.{local, place_said, first_complete}
 use Rattle.board_model.specs.Board.{DomainJournal}
 use Rattle.board_model.specs.TakenFrames.{message_item}
+use Rattle.board_model.specs.Parts.{Came, came_from, said_from}
 use Rattle.board_model.specs.CallChanges.{at_live}
 use Rattle.board_model.specs.Deeds.{Deed, takes, calls, after_deeds, along, EachDeed}
 use Rattle.board_model.specs.JournalDeeds.{deeds_of, opened}
@@ -24,7 +25,7 @@ use Rattle.board_model.specs.Takings.{Taking, is_message_taking, takings_by, too
 
 -- ---- what is queued at an endpoint: the messages that came to its address with the word queued, and were neither taken nor dropped
 
-abbrev pub item_said : ℕ → ℕ → Option ℕ → Reading → List Item
+abbrev pub item_said : ℕ → ℕ → Came → Reading → List Item
 item_said address peer name (says source destination (msg priority content)) = if destination == address then message_item peer name source priority content ∷ [] else []
 item_said address peer name other = []
 
@@ -33,7 +34,7 @@ is_queued Queued = true
 is_queued other = false
 
 abbrev pub came_to : ℕ → DomainState → Deed → List Item
-came_to address s (takes peer name frame word) = if is_queued word then item_said address peer name (reading frame) else []
+came_to address s (takes peer name frame word) = if is_queued word then item_said address peer (came_from s peer name frame) (said_from s peer frame) else []
 came_to address s other = []
 
 abbrev pub items_at : ℕ → Taking → List Item
@@ -65,16 +66,16 @@ abbrev pub is_handed : Fate → Bool
 is_handed Handed = true
 is_handed other = false
 
-abbrev pub comes_now : ℕ → Deed → List Item
-comes_now address (takes peer name frame word) = if is_handed word then item_said address peer name (reading frame) else []
-comes_now address other = []
+abbrev pub comes_now : ℕ → DomainState → Deed → List Item
+comes_now address s (takes peer name frame word) = if is_handed word then item_said address peer (came_from s peer name frame) (said_from s peer frame) else []
+comes_now address s other = []
 
 abbrev pub waiting_first : DomainState → ℕ → Option ℕ
 waiting_first s address = option_map (λ r. r.serial) (option_and_then (λ e. oldest_waiting s e.local) (endpoint_of s address))
 
 pub record TakesWhatComes (start : DomainState) (before : List Deed) (d : Deed) (t : Taking) : Type 0 where
   pub nothing_stands : standing start before t.address ≡ []
-  pub comes : comes_now t.address d ≡ t.item ∷ []
+  pub comes : comes_now t.address (after_deeds start before) d ≡ t.item ∷ []
   pub waits : waiting_first (after_deeds start before) t.address ≡ t.request
 
 abbrev pub EachBest : DomainState → List Deed → Deed → Type 0

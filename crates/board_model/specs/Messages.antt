@@ -1,11 +1,13 @@
 -- The messages of a board: those that were accepted, those that are queued, and those in the ring, that is, on their way. What
 -- receives took is defined in `Takings`, and what was dropped in `Drops`.
 -- Source: docs/PROFILE.md, "Messages".
-use Rattle.std.specs.Prelude.{ℕ, Bool, ◌&&◌, List, [], ◌∷◌, length, drop, map, filter, is_none, unwrap_or}
+use Rattle.std.specs.Prelude.{ℕ, ◌+◌, ◌-◌, ◌==◌, Bool, true, ◌&&◌, if◌then◌else◌, List, [], ◌∷◌, length, drop, map, filter, is_none, unwrap_or, None}
 use Rattle.std.specs.List.{flat_map}
 use Rattle.mc_base.specs.Fault.{fault}
-use Rattle.mc_base.specs.Letter.{msg}
-use Rattle.mc_base.specs.Reading.{Reading, says, reading}
+use Rattle.mc_base.specs.Frame.{payload_of}
+use Rattle.mc_base.specs.LetterFaults.{fields_in, total_in, offset_in}
+use Rattle.mc_base.specs.Letter.{msg, Fields}
+use Rattle.mc_base.specs.Reading.{Reading, says}
 use Rattle.board_model.specs.declared.scenario.Scenario.{Scenario}
 use Rattle.board_model.specs.Scenario.{Lane, lanes}
 use Rattle.board_model.specs.Journal.{agrees}
@@ -13,6 +15,7 @@ use Rattle.board_model.specs.DomainCall.{send_from}
 use Rattle.board_model.specs.State.{Endpoint, Item, DomainState, live_at}
 use Rattle.board_model.specs.Answer.{local, address_of}
 use Rattle.board_model.specs.Dealing.{is_message}
+use Rattle.board_model.specs.Parts.{readings}
 use Rattle.board_model.specs.Traffic.{put_to, taken_from}
 use Rattle.board_model.specs.Board.{DomainJournal, journal_of}
 use Rattle.board_model.specs.CallChanges.{at_live}
@@ -37,12 +40,16 @@ abbrev pub said_by : ℕ → ℕ → Reading → List Message
 said_by sender receiver (says source destination (msg priority content)) = record { sender = sender; source = source; receiver = receiver; destination = destination; priority = priority; content = content } ∷ []
 said_by sender receiver other = []
 
-abbrev pub messages_in : ℕ → ℕ → List (List ℕ) → List Message
-messages_in sender receiver frames = flat_map (λ f. said_by sender receiver (reading f)) frames
+abbrev pub messages_in : ℕ → ℕ → List Reading → List Message
+messages_in sender receiver rs = flat_map (said_by sender receiver) rs
 
--- whether the bytes of a frame carry one
+-- whether fields without a fault are all of an item, or its last part
+abbrev pub ends_item : Fields → Bool
+ends_item f = if f.version == 2 then offset_in f + (length f.content - 4) == total_in f else true
+
+-- whether the bytes of a frame carry one, or the last part of one
 abbrev pub carries_message : List ℕ → Bool
-carries_message frame = is_none (fault frame) && is_message frame
+carries_message frame = is_none (fault frame) && (is_message frame && ends_item (fields_in (payload_of frame)))
 
 -- ---- accepted: those of sends that answer ok
 
@@ -72,12 +79,12 @@ queued_in s j = flat_map (queued_at j.line.domain) (left_in s j).endpoints
 abbrev pub messages_queued : Scenario → List DomainJournal → List Message
 messages_queued s js = flat_map (queued_in s) js
 
--- the frames that were put on a lane and not taken
-abbrev pub ring_frames : List DomainJournal → Lane → List (List ℕ)
-ring_frames js l = drop (length (taken_from l.sender (journal_of l.receiver js))) (put_to l.receiver (journal_of l.sender js))
+-- what the frames say that were put on a lane and not taken, each with those before it on the lane
+abbrev pub ring_says : List DomainJournal → Lane → List Reading
+ring_says js l = drop (length (taken_from l.sender (journal_of l.receiver js))) (readings None (put_to l.receiver (journal_of l.sender js)))
 
 abbrev pub ring_messages : List DomainJournal → Lane → List Message
-ring_messages js l = messages_in l.sender l.receiver (ring_frames js l)
+ring_messages js l = messages_in l.sender l.receiver (ring_says js l)
 
 abbrev pub messages_in_ring : Scenario → List DomainJournal → List Message
 messages_in_ring s js = flat_map (ring_messages js) (lanes s)

@@ -4,12 +4,13 @@ use Rattle.std.specs.Prelude.{ℕ, Bool, true, false, ◌&&◌, ◌==◌, List, 
 use Rattle.mc_base.specs.FullName.{end_name, endpoint_named}
 use Rattle.mc_base.specs.NameMap.{rank}
 use Rattle.mc_base.specs.Letter.{accept, reject}
-use Rattle.mc_base.specs.Reading.{Reading, announces, says, reading}
+use Rattle.mc_base.specs.Reading.{Reading, announces, says}
 use Rattle.mc_base.specs.declared.name.EndName.{EndName}
 use Rattle.board_model.specs.declared.scenario.Scenario.{Scenario}
 use Rattle.board_model.specs.DomainCall.{create_at, test_of, wait_for}
 use Rattle.board_model.specs.Journal.{PlainResult, found_at, was_accepted, was_rejected, tells, completes}
 use Rattle.board_model.specs.State.{DomainState, ChannelEnd, Asked, name_of, channel_of, Request, endpoint_of, channel_in, request_at_place}
+use Rattle.board_model.specs.Parts.{said_from}
 use Rattle.board_model.specs.ChannelEnds.{sends_to}
 use Rattle.board_model.specs.Answer.{local, first_complete}
 use Rattle.board_model.specs.Board.{DomainJournal}
@@ -29,7 +30,7 @@ announced_in name peer other = []
 
 abbrev pub addresses_said : ℕ → DomainState → Deed → List ℕ
 addresses_said name s (calls node (create_at port) (tells address)) = if rank (end_name s.number (local node port)) == name then address ∷ [] else []
-addresses_said name s (takes peer frame_name frame word) = announced_in name peer (reading frame)
+addresses_said name s (takes peer frame_name frame word) = announced_in name peer (said_from s peer frame)
 addresses_said name s other = []
 
 -- ---- the replies to a Connect: the Accept or the Reject of the channel that was taken from the peer to which the channel's sender, the
@@ -45,7 +46,7 @@ replied_in channel s peer (says source destination (reject number reason)) = if 
 replied_in channel s peer other = []
 
 abbrev pub replies_said : ℕ → DomainState → Deed → List PlainResult
-replies_said channel s (takes peer frame_name frame word) = replied_in channel s peer (reading frame)
+replies_said channel s (takes peer frame_name frame word) = replied_in channel s peer (said_from s peer frame)
 replies_said channel s other = []
 
 -- ---- what a test or a wait returns of such a request was said before

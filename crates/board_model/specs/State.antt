@@ -1,11 +1,11 @@
 -- The state of a domain.
 -- Source: docs/PROFILE.md, "A domain". Lists are in the order in which their items came. Buffers and requests are named by their
 -- places in these lists.
-use Rattle.std.specs.Prelude.{ℕ, ◌+◌, Bool, false, not, ◌&&◌, List, [], ◌∷◌, ◌++◌, ◌==◌, map, count_by, position, find, slice_get, Option, None, Some, option_map, option_and_then, unwrap_or, is_none}
+use Rattle.std.specs.Prelude.{ℕ, ◌+◌, Bool, false, not, ◌&&◌, List, [], ◌∷◌, ◌++◌, ◌==◌, map, filter, length, position, find, slice_get, Option, None, Some, option_map, option_and_then, unwrap_or, is_none}
 use Rattle.std.specs.List.{flat_map, list_any}
 use Rattle.mc_base.specs.Limits.{name_service_address}
 use Rattle.mc_base.specs.Frame.{made}
-use Rattle.mc_base.specs.Letter.{PlainLetter, accept, reject, spelling}
+use Rattle.mc_base.specs.Letter.{PlainLetter, Carrier, accept, reject, spelling}
 use Rattle.mc_base.specs.Announcement.{announcement}
 use Rattle.mc_base.specs.FullName.{end_name, full_name}
 use Rattle.mc_base.specs.NameMap.{Names}
@@ -94,8 +94,22 @@ pub record Reply : Type 0 where
   pub channel : ℕ
   pub reason : Option Reason
 
+-- a message or packet of which not all frames came yet: where it comes from and goes to, what carries it, how many bytes the whole has,
+-- and those that came
+pub record Part : Type 0 where
+  pub source : ℕ
+  pub destination : ℕ
+  pub carrier : Carrier
+  pub total : ℕ
+  pub content : List ℕ
+
+-- a frame that is held in the open part of a peer, by its name
+pub record HeldFrame : Type 0 where
+  pub peer : ℕ
+  pub name : ℕ
+
 -- a peer, the domain itself among them: the lane to it with its free buffers, the frames of the lane from it that were
--- shown and not taken, the announcements and replies that are owed to it, and the addresses known of its names
+-- shown and not taken, the announcements and replies that are owed to it, the addresses known of its names, and its open part or none
 pub record Peer : Type 0 where
   pub number : ℕ
   pub size : ℕ
@@ -104,6 +118,7 @@ pub record Peer : Type 0 where
   pub announcements : List Announcement
   pub replies : List Reply
   pub known : Names
+  pub part : Option Part
 
 -- `endpoints` are the live ones in the order of their creation, and `ended` the addresses, in rising order, of those deleted whose end
 -- is still to be announced to some linked domain. Each of both uses a record
@@ -115,6 +130,7 @@ pub record DomainState : Type 0 where
   pub peers : List Peer
   pub requests : List Request
   pub lent : List LentPacket
+  pub held : List HeldFrame
   pub endpoints_given : ℕ
   pub channels_given : ℕ
   pub requests_given : ℕ
@@ -122,11 +138,11 @@ pub record DomainState : Type 0 where
 
 -- a peer at the opening: every buffer is free, and nothing is known or owed
 abbrev pub new_peer : Neighbour → Peer
-new_peer n = record { number = n.number; size = n.size; free = n.size; shown = 0; announcements = []; replies = []; known = [] }
+new_peer n = record { number = n.number; size = n.size; free = n.size; shown = 0; announcements = []; replies = []; known = []; part = None }
 
 -- the state at the opening
 abbrev pub opening : ℕ → ℕ → List Neighbour → DomainState
-opening number nodes neighbours = record { number = number; nodes = nodes; endpoints = []; ended = []; peers = map new_peer neighbours; requests = []; lent = []; endpoints_given = 0; channels_given = 0; requests_given = 0; packets_lent = 0 }
+opening number nodes neighbours = record { number = number; nodes = nodes; endpoints = []; ended = []; peers = map new_peer neighbours; requests = []; lent = []; held = []; endpoints_given = 0; channels_given = 0; requests_given = 0; packets_lent = 0 }
 
 -- ---- endpoints
 
@@ -281,12 +297,23 @@ item_in other = []
 abbrev pub lent_items : DomainState → List Item
 lent_items s = map (λ p. p.item) s.lent ++ flat_map (λ r. item_in r.outcome) s.requests
 
--- how many buffers of the lane from a peer are in queues, and how many are lent
+-- the names of the frames that brought these items from a peer
+abbrev pub frames_from : ℕ → List Item → List ℕ
+frames_from peer items = flat_map (λ i. i.frames) (filter (is_from peer) items)
+
+-- the names of the frames in the open part of a peer
+abbrev pub holds_from : ℕ → HeldFrame → Bool
+holds_from n h = h.peer == n
+
+abbrev pub held_of : DomainState → ℕ → List ℕ
+held_of s n = map (λ h. h.name) (filter (holds_from n) s.held)
+
+-- how many buffers of the lane from a peer are in queues and in its open part, and how many are lent
 abbrev pub queued_from : ℕ → DomainState → ℕ
-queued_from n s = count_by (is_from n) (queued_items s)
+queued_from n s = length (frames_from n (queued_items s)) + length (held_of s n)
 
 abbrev pub lent_from : ℕ → DomainState → ℕ
-lent_from n s = count_by (is_from n) (lent_items s)
+lent_from n s = length (frames_from n (lent_items s))
 
 abbrev pub held_from : ℕ → DomainState → ℕ
 held_from n s = queued_from n s + lent_from n s

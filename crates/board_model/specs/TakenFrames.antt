@@ -1,13 +1,13 @@
 -- What a domain does with a frame that it takes from a peer: for each thing that a frame may say, rows in their order, of which the
 -- first that applies counts. A row has a condition, a word, and what happens.
--- Source: docs/PROFILE.md, "What a domain does with a taken frame". Except where queued or handed, the buffer is given back at once.
-use Rattle.std.specs.Prelude.{ℕ, Bool, true, false, not, ◌&&◌, ◌||◌, nat_le, List, [], ◌∷◌, ◌++◌, ◌==◌, length, Option, Some, None, is_some, option_to_list, if◌then◌else◌}
+-- Source: docs/PROFILE.md, "What a domain does with a taken frame". Except where queued, handed or held in a part, the buffer is given back at once.
+use Rattle.std.specs.Prelude.{ℕ, Bool, true, false, not, ◌&&◌, ◌||◌, nat_le, List, [], ◌∷◌, ◌++◌, ◌==◌, length, Option, Some, None, is_some, is_none, if◌then◌else◌}
 use Rattle.byteorder.specs.Endian.{little_bytes}
 use Rattle.mc_base.specs.Letter.{PlainLetter, msg, connect, accept, reject, packet, scalar, send_close, bytes_of_bits}
 use Rattle.std.specs.List.{flat_map}
 use Rattle.mc_base.specs.NameMap.{Names, names_limit, learned, forgotten, address_in}
 use Rattle.mc_base.specs.FullName.{endpoint_named}
-use Rattle.mc_base.specs.Reading.{Reading, is_faulty, announces, says}
+use Rattle.mc_base.specs.Reading.{Reading, is_faulty, announces, says, brings}
 use Rattle.mc_base.specs.declared.name.EndName.{EndName}
 use Rattle.mc_base.specs.declared.fate.Fate.{Fate}
 use Rattle.mc_base.specs.declared.fate.Fate.TheVariants as fate
@@ -19,6 +19,7 @@ use Rattle.board_model.specs.State.{Item, ChannelEnd, Endpoint, is_accepted, is_
 use Rattle.board_model.specs.Change.{Change, channel_set, item_queued, item_handed, item_lost, waiting_ended, name_found, connect_settled, reply_owed, names_known}
 use Rattle.board_model.specs.ChannelEnds.{accepted_end, end_rows}
 use Rattle.board_model.specs.Dealing.{fault_word}
+use Rattle.board_model.specs.Parts.{Came, came_from, said_from}
 
 pub record Row : Type 0 where
   pub applies : Bool
@@ -94,14 +95,14 @@ connect_rows s peer source destination (Some e) number kind =
 
 -- ---- other letters, by the endpoint with the letter's destination
 
--- a message or a channel's packet or scalar as an item, brought by a frame of this name, or of none
-abbrev pub message_item : ℕ → Option ℕ → ℕ → ℕ → List ℕ → Item
-message_item peer name source priority content = record { peer = peer; source = source; priority = priority; channel = None; content = content; frames = option_to_list name }
+-- a message or a channel's packet or scalar as an item, brought by the frames of these names
+abbrev pub message_item : ℕ → Came → ℕ → ℕ → List ℕ → Item
+message_item peer name source priority content = record { peer = peer; source = source; priority = priority; channel = None; content = content; frames = name.names }
 
-abbrev pub channel_item : ℕ → Option ℕ → ℕ → ℕ → List ℕ → Item
-channel_item peer name source number content = record { peer = peer; source = source; priority = 0; channel = Some number; content = content; frames = option_to_list name }
+abbrev pub channel_item : ℕ → Came → ℕ → ℕ → List ℕ → Item
+channel_item peer name source number content = record { peer = peer; source = source; priority = 0; channel = Some number; content = content; frames = name.names }
 
-abbrev pub item_of : ℕ → Option ℕ → ℕ → PlainLetter → Item
+abbrev pub item_of : ℕ → Came → ℕ → PlainLetter → Item
 item_of peer name source (msg priority content) = message_item peer name source priority content
 item_of peer name source (packet number content) = channel_item peer name source number content
 item_of peer name source (scalar number bits value) = channel_item peer name source number (little_bytes (bytes_of_bits bits) value)
@@ -135,7 +136,7 @@ abbrev pub channel_rows : DomainState → ℕ → ℕ → Endpoint → Option Ch
 channel_rows s peer destination e None i l = last_row fate.State []
 channel_rows s peer destination e (Some c) i l = flat_map (λ r. rows_by s destination e i l r.applies r.leaves r.word) (end_rows peer c l) ++ last_row fate.State []
 
-abbrev pub letter_rows : DomainState → ℕ → Option ℕ → ℕ → ℕ → Option Endpoint → PlainLetter → List Row
+abbrev pub letter_rows : DomainState → ℕ → Came → ℕ → ℕ → Option Endpoint → PlainLetter → List Row
 letter_rows s peer name source destination to (connect number kind) = connect_rows s peer source destination to number kind
 letter_rows s peer name source destination None l = last_row fate.NoEndpoint []
 letter_rows s peer name source destination (Some e) (msg priority content) = message_rows s destination e e.channel (message_item peer name source priority content)
@@ -143,11 +144,18 @@ letter_rows s peer name source destination (Some e) l = channel_rows s peer dest
 
 -- ---- all that a frame may say
 
-abbrev pub rows : DomainState → ℕ → Option ℕ → Reading → List Row
+abbrev pub rows : DomainState → ℕ → Came → Reading → List Row
 rows s peer name (is_faulty f) = last_row (fault_word f) []
 rows s peer name (announces text address there) = name_rows peer (names_of (peer_at s peer)) (endpoint_named text) address there
 rows s peer name (says source destination l) = letter_rows s peer name source destination (endpoint_of s destination) l
+rows s peer name (brings source destination q) =
+    row (is_none name.part) fate.Stray []
+    ∷ last_row fate.Part []
+
+-- the row of what a frame from a peer says, with the frames that brought it
+abbrev pub row_of : DomainState → ℕ → Came → Reading → Row
+row_of s peer name r = first_row (rows s peer name r)
 
 -- the row of a frame from a peer, with its name or none
-abbrev pub row_of : DomainState → ℕ → Option ℕ → Reading → Row
-row_of s peer name r = first_row (rows s peer name r)
+abbrev pub row_from : DomainState → ℕ → Option ℕ → List ℕ → Row
+row_from s peer name frame = row_of s peer (came_from s peer name frame) (said_from s peer frame)

@@ -1,12 +1,14 @@
 -- What a journal says of the lanes: the frames put and taken, the buffers given back, and the looks.
 -- Source: docs/PROFILE.md, "Lanes".
-use Rattle.std.specs.Prelude.{ℕ, ◌+◌, List, [], ◌∷◌, ◌==◌, map, filter, not, count_by, if◌then◌else◌, Option, None, Some}
+use Rattle.std.specs.Prelude.{ℕ, ◌+◌, List, [], ◌∷◌, ◌==◌, map, filter, length, if◌then◌else◌, Option, None, Some}
 use Rattle.std.specs.List.{flat_map}
 use Rattle.board_model.specs.declared.scenario.CallLine.{CallLine}
 use Rattle.board_model.specs.Journal.{PlainEntry, turned, put, again, waits, called, Visit, Taken}
-use Rattle.board_model.specs.State.{Item, is_from}
-use Rattle.board_model.specs.Dealing.{keeps_buffer}
+use Rattle.board_model.specs.State.{Item, frames_from}
 use Rattle.board_model.specs.CallChanges.{returned}
+use Rattle.board_model.specs.Deeds.{along}
+use Rattle.board_model.specs.Turn.{nameless, visit_deeds}
+use Rattle.board_model.specs.Returns.{names_given}
 use Rattle.board_model.specs.Step.{RunState, next_line, call_at, after}
 
 -- the visits to a peer
@@ -44,11 +46,11 @@ returned_by None r = []
 returned_by (Some line) r = returned r.state line.node (call_at r line)
 
 abbrev pub given_in : List CallLine → RunState → ℕ → PlainEntry → ℕ
-given_in script r peer (turned visits) = count_by (λ t. not (keeps_buffer t.fate)) (takes_in peer (turned visits))
+given_in script r peer (turned visits) = length (along (names_given peer) r.state (flat_map (visit_deeds nameless) visits))
 given_in script r peer (put to frame) = 0
 given_in script r peer (again word) = 0
 given_in script r peer (waits k) = 0
-given_in script r peer (called k a) = count_by (is_from peer) (returned_by (next_line script r) r)
+given_in script r peer (called k a) = length (frames_from peer (returned_by (next_line script r) r))
 
 -- how many buffers a run gives back to a peer
 abbrev pub given : List CallLine → RunState → ℕ → List PlainEntry → ℕ

@@ -14,7 +14,7 @@ abbrev pub refusals : List Refusal
 refusals = refusal.NodeInvalid ∷ refusal.ExistsAlready ∷ refusal.EndpLimit ∷ refusal.AddressSpent ∷ refusal.EndpInvalid ∷ refusal.PeerInvalid ∷ refusal.OnChannel ∷ refusal.ChanConnected ∷ refusal.EndpBusy ∷ refusal.ChanLimit ∷ refusal.RequestLimit ∷ refusal.NotConnected ∷ refusal.ChanDirection ∷ refusal.ChanType ∷ refusal.ChanClosed ∷ refusal.AlreadyOpen ∷ refusal.NotOpen ∷ refusal.MsgSize ∷ refusal.PktSize ∷ refusal.NoBuffer ∷ refusal.Empty ∷ refusal.SclSize ∷ refusal.BufInvalid ∷ refusal.RequestInvalid ∷ refusal.Pending ∷ refusal.TooLate ∷ refusal.Timeout ∷ refusal.LinkInvalid ∷ refusal.RawSound ∷ []
 
 abbrev pub fates : List Fate
-fates = fate.FrameShort ∷ fate.FrameLong ∷ fate.HeaderLen ∷ fate.PayloadShort ∷ fate.Magic ∷ fate.Version ∷ fate.Kind ∷ fate.Argument ∷ fate.Channel ∷ fate.Size ∷ fate.NsSize ∷ fate.NsFlags ∷ fate.NsName ∷ fate.ForeignName ∷ fate.NamesFull ∷ fate.UnknownName ∷ fate.RepliesFull ∷ fate.Acted ∷ fate.Owed ∷ fate.NoEndpoint ∷ fate.OnChannel ∷ fate.Handed ∷ fate.Queued ∷ fate.Closed ∷ fate.State ∷ []
+fates = fate.FrameShort ∷ fate.FrameLong ∷ fate.HeaderLen ∷ fate.PayloadShort ∷ fate.Magic ∷ fate.Version ∷ fate.Kind ∷ fate.Argument ∷ fate.Channel ∷ fate.Size ∷ fate.NsSize ∷ fate.NsFlags ∷ fate.NsName ∷ fate.ForeignName ∷ fate.NamesFull ∷ fate.UnknownName ∷ fate.RepliesFull ∷ fate.Acted ∷ fate.Owed ∷ fate.NoEndpoint ∷ fate.OnChannel ∷ fate.Handed ∷ fate.Queued ∷ fate.Closed ∷ fate.State ∷ fate.Part ∷ fate.Stray ∷ []
 
 abbrev pub reasons : List Reason
 reasons = NoEndpoint ∷ Connected ∷ Busy ∷ []

@@ -68,6 +68,8 @@ fate_text fate.Handed = codes "handed"
 fate_text fate.Queued = codes "queued"
 fate_text fate.Closed = codes "closed"
 fate_text fate.State = codes "state"
+fate_text fate.Part = codes "part"
+fate_text fate.Stray = codes "stray"
 
 -- the reasons for which a connection was rejected
 abbrev pub reason_text : Reason → List ℕ

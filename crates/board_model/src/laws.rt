@@ -10,6 +10,7 @@ ghost use Rattle.board_model.specs.MessageLaws.{
   CancelledRequestsTookNothing,
 };
 ghost use Rattle.board_model.specs.ChannelLaws.{EveryChannelIsKept};
+ghost use Rattle.board_model.specs.Fragments.{NoPartIsLost};
 ghost use Rattle.board_model.specs.Honesty.{KnownAddressesAreReal};
 ghost use Rattle.board_model.specs.ReadBack.{LettersAreReadBack};
 ghost use Rattle.board_model.specs.RunLaws.{JournalsTellDeeds};
@@ -66,6 +67,11 @@ pub fn no_message_is_lost()
 /// are queued or are in the ring. Where any were dropped, none are queued.
 pub fn every_channel_is_kept()
     ensures { EveryChannelIsKept }
+{}
+
+/// No frame is stray, and an open part ends only by becoming whole.
+pub fn no_part_is_lost()
+    ensures { NoPartIsLost }
 {}
 
 /// A request that was cancelled took nothing.

@@ -6,6 +6,7 @@ pub mod Bytes
 pub mod FaultRow
 pub mod Frame
 pub mod Letter
+pub mod Pieces
 pub mod LetterFaults
 pub mod Announcement
 pub mod Fault

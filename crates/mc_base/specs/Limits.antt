@@ -33,6 +33,17 @@ longest_frame = 512
 abbrev pub item_size : ℕ
 item_size = 488
 
+-- the most bytes that an item has of which a frame carries a part
+abbrev pub total_size : ℕ
+total_size = 8192
+
+-- the most bytes of one that a single frame carries, and of a part of one
+abbrev pub single_size : ℕ
+single_size = 488
+
+abbrev pub piece_size : ℕ
+piece_size = 484
+
 -- the bytes of the header of a frame
 abbrev pub frame_header_size : ℕ
 frame_header_size = 16

@@ -38,4 +38,8 @@ pub enum Fate {
     Closed,
     /// It is out of place.
     State,
+    /// It is held until the rest of its item comes.
+    Part,
+    /// It goes on with no open item.
+    Stray,
 }

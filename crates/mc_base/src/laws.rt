@@ -6,7 +6,8 @@ use crate::limits::{
     BUFFER_SIZE, FIRST_ADDRESS, FRAME_HEADER_SIZE, ITEM_SIZE, LETTER_HEADER_SIZE, LONGEST_FRAME,
     MAX_ASKED, MAX_CHANNELS, MAX_DOMAINS, MAX_ENDPOINTS, MAX_ENDPOINTS_EVER, MAX_NODES,
     MAX_OWED_ANNOUNCEMENTS, MAX_OWED_REPLIES, MAX_POOL, MAX_REQUESTS, MAX_RING_SIZE,
-    NAME_SERVICE_ADDRESS, NAME_SIZE, NAMES_KNOWN, NS_SIZE, POOL_BUFFER_SIZE, TURN_FRAMES,
+    NAME_SERVICE_ADDRESS, NAME_SIZE, NAMES_KNOWN, NS_SIZE, PIECE_SIZE, POOL_BUFFER_SIZE,
+    SINGLE_SIZE, TOTAL_SIZE, TURN_FRAMES,
 };
 
 /// Each constant is the number that the definitions rest on.
@@ -15,6 +16,9 @@ pub fn limits_are_those_defined()
     ensures pool_buffer { POOL_BUFFER_SIZE ≡ limit.pool_buffer_size }
     ensures frame { LONGEST_FRAME ≡ limit.longest_frame }
     ensures item { ITEM_SIZE ≡ limit.item_size }
+    ensures single { SINGLE_SIZE ≡ limit.single_size }
+    ensures piece { PIECE_SIZE ≡ limit.piece_size }
+    ensures total { TOTAL_SIZE ≡ limit.total_size }
     ensures frame_header { FRAME_HEADER_SIZE ≡ limit.frame_header_size }
     ensures letter_header { LETTER_HEADER_SIZE ≡ limit.letter_header_size }
     ensures announcement { NS_SIZE ≡ limit.announcement_size }

@@ -1,6 +1,6 @@
 use crate::{Bits, Kind, Priority, Reason};
 
-/// What a frame to an endpoint carries, by version 1 of the payload header.
+/// What a frame to an endpoint carries, by version 1 of the payload header, and parts of messages and packets by version 2.
 #[derive(Clone, Copy, Debug)]
 pub enum Letter<'a> {
     /// A message of 0 to 488 bytes.
@@ -46,5 +46,19 @@ pub enum Letter<'a> {
     /// The receiver closed its end.
     RecvClose {
         channel: u32,
+    },
+    /// A part of a message of `total` bytes, of which `offset` come before these.
+    MsgPart {
+        priority: Priority,
+        total: u16,
+        offset: u16,
+        bytes: &'a [u8],
+    },
+    /// A part of a packet of `total` bytes, of which `offset` come before these.
+    PacketPart {
+        channel: u32,
+        total: u16,
+        offset: u16,
+        bytes: &'a [u8],
     },
 }

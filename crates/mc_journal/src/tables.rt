@@ -81,6 +81,8 @@ fn all_fates() -> &'static [Fate]
         Fate::Queued,
         Fate::Closed,
         Fate::State,
+        Fate::Part,
+        Fate::Stray,
     ]
 }
 

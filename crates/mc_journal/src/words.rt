@@ -83,5 +83,7 @@ pub fn fate_word(fate: Fate) -> &'static [u8]
         Fate::Queued => b"queued",
         Fate::Closed => b"closed",
         Fate::State => b"state",
+        Fate::Part => b"part",
+        Fate::Stray => b"stray",
     }
 }
