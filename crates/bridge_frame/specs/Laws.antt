@@ -1,16 +1,16 @@
--- What holds of letters and their spellings.
--- Source: the payload header, version 1, of docs/FORMATS.md.
+-- What holds of letters, of parts of letters, and of their spellings.
+-- Source: the payload header of docs/FORMATS.md.
 use Rattle.std.specs.Prelude.{◌≡◌, ℕ, List, None}
 use Rattle.mc_base.specs.FaultRow.{first_fault}
-use Rattle.mc_base.specs.Letter.{PlainLetter, HasSpelling, IsLetter, spelling}
+use Rattle.mc_base.specs.Letter.{Saying, CanBeSaid, IsSaying, saying_text}
 use Rattle.mc_base.specs.LetterFaults.{letter_faults}
 
--- the spelling of each letter that has one says this letter, and has no fault
+-- the spelling of each letter or part that has one says it, and has no fault
 abbrev pub LettersReadBack : Type 0
 LettersReadBack =
-    (l : PlainLetter) → HasSpelling l
-    → IsLetter (spelling l) l × (first_fault (letter_faults (spelling l)) ≡ None)
+    (s : Saying) → CanBeSaid s
+    → IsSaying (saying_text s) s × (first_fault (letter_faults (saying_text s)) ≡ None)
 
--- a payload says one letter at most
+-- a payload says one letter or part at most
 abbrev pub NoPayloadHasTwoLetters : Type 0
-NoPayloadHasTwoLetters = (payload : List ℕ) (l m : PlainLetter) → IsLetter payload l → IsLetter payload m → l ≡ m
+NoPayloadHasTwoLetters = (payload : List ℕ) (s t : Saying) → IsSaying payload s → IsSaying payload t → s ≡ t

@@ -1,16 +1,16 @@
 -- What reading the fields of a letter gives.
--- Source: the payload header, version 1, of docs/FORMATS.md.
+-- Source: the payload header of docs/FORMATS.md.
 use Rattle.std.specs.Prelude.{◌≡◌, ◌<◌, ℕ, Result, Ok, Err, Some, None, List, []}
 use Rattle.mc_base.specs.FaultRow.{first_fault}
-use Rattle.mc_base.specs.Letter.{Fields, version_1, fields_of, plain_letter, HasSpelling}
+use Rattle.mc_base.specs.Letter.{Fields, version_1, saying_of, saying_fields, CanBeSaid}
 use Rattle.mc_base.specs.LetterFaults.{field_faults}
 use Rattle.mc_base.specs.declared.letter.Letter.{Letter}
 use Rattle.mc_base.specs.declared.fault.LetterFault.{LetterFault}
 
 -- a letter of these fields, which have no fault
 pub record IsRead (f : Fields) (l : Letter) : Type 0 where
-  pub fields_are : fields_of (plain_letter l) ≡ f
-  pub lawful : HasSpelling (plain_letter l)
+  pub fields_are : saying_fields (saying_of l) ≡ f
+  pub lawful : CanBeSaid (saying_of l)
   pub faultless : first_fault (field_faults f) ≡ None
 
 -- a letter of these fields, or their first fault

@@ -6,7 +6,7 @@ ghost use Rattle.mc_base.specs.Letter.{version_1};
 ghost use Rattle.bridge_frame.specs.Reading.{IsBare, IsReading};
 
 use byteorder::{ByteOrder, LittleEndian};
-use mc_base::{Bits, ITEM_SIZE, Kind, Letter, LetterFault, Priority, Reason};
+use mc_base::{Bits, Kind, Letter, LetterFault, Priority, Reason, SINGLE_SIZE};
 
 /// A message: the argument is its priority, and it is on no channel.
 pub fn message(argument: u8, channel: u32, content: &[u8]) -> Result<Letter<'_>, LetterFault>
@@ -91,7 +91,7 @@ pub fn bare(argument: u8, channel: u32, content: &[u8]) -> Result<u32, LetterFau
     alone(channel, content)
 }
 
-fn no_argument(argument: u8) -> Result<(), LetterFault>
+pub(crate) fn no_argument(argument: u8) -> Result<(), LetterFault>
     ensures { MatchResult result (λ _. argument ≡ 0) (λ e. (e ≡ Argument) × (0 < argument)) }
 {
     if argument != 0 {
@@ -101,7 +101,7 @@ fn no_argument(argument: u8) -> Result<(), LetterFault>
 }
 
 /// A channel, which has a number that is not 0.
-fn numbered(channel: u32) -> Result<u32, LetterFault>
+pub(crate) fn numbered(channel: u32) -> Result<u32, LetterFault>
     ensures { MatchResult result (λ c. (c ≡ channel) × (0 < channel)) (λ e. (e ≡ Channel) × (channel ≡ 0)) }
 {
     if channel == 0 {
@@ -129,7 +129,7 @@ fn item(content: &[u8]) -> Result<&[u8], LetterFault>
         (λ bytes. (bytes.now ≡ content.now) × (length content.now ≤ 488))
         (λ e. (e ≡ Size) × (488 < length content.now)) }
 {
-    if content.len() > ITEM_SIZE {
+    if content.len() > SINGLE_SIZE {
         return Err(LetterFault::Size);
     }
     Ok(content)

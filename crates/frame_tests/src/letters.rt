@@ -1,5 +1,5 @@
 ghost use Rattle.std.specs.Prelude.{◌≤◌, length};
-ghost use Rattle.mc_base.specs.Letter.{HasSpelling, plain_letter};
+ghost use Rattle.mc_base.specs.Letter.{FitsFrame, saying_of};
 
 use bridge_frame::{letters_read_back, no_payload_has_two_letters, read_letter, write_letter};
 use mc_base::{Bits, Kind, Letter, LetterFault, Priority, Reason};
@@ -19,7 +19,14 @@ const SCALAR_64: [u8; 16] = [
     0x4d, 1, 8, 8, 7, 0, 0, 0, 0xff, 0xff, 0xff, 0xff, 0xff, 0xff, 0xff, 0xff,
 ];
 
-const LETTERS: [(&[u8], &str); 16] = [
+/// The last 5 bytes of 489, and the first of 8,192.
+const MSG_PART: [u8; 17] = [
+    0x4d, 2, 1, 0, 0, 0, 0, 0, 0xe9, 1, 0xe4, 1, 0x61, 0x61, 0x61, 0x61, 0x61,
+];
+
+const PACKET_PART: [u8; 13] = [0x4d, 2, 7, 0, 7, 0, 0, 0, 0, 0x20, 0, 0, 0x68];
+
+const LETTERS: [(&[u8], &str); 19] = [
     (
         &[0x4d, 1, 1, 3, 0, 0, 0, 0, 0x68, 0x69],
         "Msg { priority: Priority { number: 3 }, bytes: [104, 105] }",
@@ -60,16 +67,49 @@ const LETTERS: [(&[u8], &str); 16] = [
     ),
     (&[0x4d, 1, 9, 0, 7, 0, 0, 0], "SendClose { channel: 7 }"),
     (&[0x4d, 1, 10, 0, 7, 0, 0, 0], "RecvClose { channel: 7 }"),
+    (
+        &MSG_PART,
+        "MsgPart { priority: Priority { number: 0 }, total: 489, offset: 484, bytes: [97, 97, 97, 97, 97] }",
+    ),
+    (
+        &PACKET_PART,
+        "PacketPart { channel: 7, total: 8192, offset: 0, bytes: [104] }",
+    ),
+    (
+        &[0x4d, 2, 1, 3, 0, 0, 0, 0, 1, 0, 0, 0, 0x68],
+        "MsgPart { priority: Priority { number: 3 }, total: 1, offset: 0, bytes: [104] }",
+    ),
+];
+
+/// Contents of a part of a message, and whether they break the rules on its two numbers and its bytes.
+const CONTENTS: [(&[u8], bool); 8] = [
+    (&[], true),
+    (&[1, 0, 0, 0], true),
+    (&[1, 0, 0, 0, 0x68], false),
+    (&[0, 0, 0, 0, 0x68], true),
+    (&[1, 0, 1, 0, 0x68], true),
+    (&[2, 0, 1, 0, 0x68], false),
+    (&[1, 0x20, 0, 0, 0x68], true),
+    (&[0, 0x20, 0xff, 0x1f, 0x68], false),
 ];
 
 /// The first four bytes, the channel's lowest, the length of the content, and the first fault.
 type Row = ([u8; 4], u8, u16, Option<LetterFault>);
 
-const FAULTS: [Row; 44] = [
+const FAULTS: [Row; 53] = [
     ([0x4c, 1, 1, 0], 0, 0, Some(LetterFault::Magic)),
     ([0x4c, 2, 1, 0], 0, 0, Some(LetterFault::Magic)),
     ([0x4d, 0, 1, 0], 0, 0, Some(LetterFault::Version)),
-    ([0x4d, 2, 0, 0], 0, 0, Some(LetterFault::Version)),
+    ([0x4d, 3, 0, 0], 0, 0, Some(LetterFault::Version)),
+    ([0x4d, 2, 0, 0], 0, 0, Some(LetterFault::Kind)),
+    ([0x4d, 2, 2, 2], 1, 0, Some(LetterFault::Kind)),
+    ([0x4d, 2, 8, 1], 1, 1, Some(LetterFault::Kind)),
+    ([0x4d, 2, 1, 4], 1, 0, Some(LetterFault::Argument)),
+    ([0x4d, 2, 7, 1], 0, 0, Some(LetterFault::Argument)),
+    ([0x4d, 2, 1, 3], 1, 0, Some(LetterFault::Channel)),
+    ([0x4d, 2, 7, 0], 0, 0, Some(LetterFault::Channel)),
+    ([0x4d, 2, 1, 3], 0, 5, Some(LetterFault::Size)),
+    ([0x4d, 2, 7, 0], 1, 5, Some(LetterFault::Size)),
     ([0x4d, 1, 0, 0], 1, 0, Some(LetterFault::Kind)),
     ([0x4d, 1, 11, 0], 1, 0, Some(LetterFault::Kind)),
     ([0x4d, 1, 255, 9], 1, 0, Some(LetterFault::Kind)),
@@ -114,7 +154,7 @@ const FAULTS: [Row; 44] = [
 
 /// The letter is written as these bytes, and the rest stays.
 fn is_written(letter: &Letter<'_>, bytes: &[u8]) -> bool
-    requires lawful { HasSpelling (plain_letter letter.now) }
+    requires lawful { FitsFrame (saying_of letter.now) }
     requires short { length bytes.now ≤ 496 }
 {
     let mut out = [0xee; 500];
@@ -155,7 +195,21 @@ fn each_letter_is_written(rt: HostRuntime) -> Result<(), Fail> {
         bits: Bits::B64,
         value: u64::MAX,
     };
+    let msg_part = Letter::MsgPart {
+        priority: Priority::new(0).ok_or("0 is a priority")?,
+        total: 489,
+        offset: 484,
+        bytes: b"aaaaa",
+    };
+    let packet_part = Letter::PacketPart {
+        channel,
+        total: 8192,
+        offset: 0,
+        bytes: b"h",
+    };
     let rows = [
+        is_written(&msg_part, &MSG_PART),
+        is_written(&packet_part, &PACKET_PART),
         is_written(&msg, &[0x4d, 1, 1, 3, 0, 0, 0, 0, 0x68, 0x69]),
         is_written(&connect, &CONNECT),
         is_written(&Letter::Accept { channel: 1 }, &ACCEPT),
@@ -218,6 +272,22 @@ fn fault_at(front: [u8; 4], channel: u8, content: usize) -> Option<LetterFault>
     payload[3] = argument;
     payload[4] = channel;
     fault_of(&payload[..8 + content])
+}
+
+/// Whether a part of a message with this content has a fault, which is that of its size then.
+fn breaks_size(content: &[u8]) -> bool {
+    let mut payload = [0; 16];
+    payload[..4].copy_from_slice(&[0x4d, 2, 1, 0]);
+    let count = content.len().min(8);
+    payload[8..8 + count].copy_from_slice(&content[..count]);
+    fault_of(&payload[..8 + count]) == Some(LetterFault::Size)
+}
+
+#[test]
+fn parts_lie_within_their_whole(rt: HostRuntime) {
+    for (i, (content, breaks)) in CONTENTS.iter().enumerate() {
+        assert!(rt; breaks_size(content) == *breaks, "row {i}");
+    }
 }
 
 fn assert_faults(rt: &impl Abort, rows: &[Row]) {

@@ -1,4 +1,4 @@
-ghost use Rattle.mc_base.specs.Letter.{HasSpelling, plain_letter};
+ghost use Rattle.mc_base.specs.Letter.{FitsFrame, saying_of};
 
 use bridge_frame::{Letter, write_letter};
 use mc_base::{FrameFault, LetterFault, NAME_SERVICE_ADDRESS, Priority};
@@ -11,7 +11,7 @@ const NAME: &[u8] = b"mcapi:1:0:5\0\0\0\0\0\0\0\0\0\0\0\0\0\0\0\0\0\0\0\0\0\0\0\
 
 /// A frame of 512 bytes from 1024 to 1025 that carries a letter.
 fn framed(letter: &Letter<'_>) -> [u8; 512]
-    requires { HasSpelling (plain_letter letter.now) }
+    requires { FitsFrame (saying_of letter.now) }
 {
     let mut payload = [0; 496];
     write_letter(letter, &mut payload);

@@ -1,6 +1,8 @@
-use Rattle.mc_base.specs.Reading.{is_faulty, announces, says}
-use Rattle.mc_base.specs.Letter.{plain_letter}
+use Rattle.std.proofs.Common.{sym, ◌∙◌}
+use Rattle.mc_base.specs.Reading.{is_faulty, announces, says_so}
+use Rattle.mc_base.specs.Letter.{saying_of}
 use Rattle.mc_base.proofs.Readings.{fault-read}
+use Rattle.name_service.proofs.FramesRead.{no_fault_said}
 use Rattle.name_service.proofs.said.fault_of.Goals as goal
 
 pub returns-in-Faulty : goal.returns-in-Faulty
@@ -12,4 +14,6 @@ returns-in-Announces c =
     fault-read c.args.frame.now (announces ns.name.items ns.addr ns.create) c.in-Announces.ensures
 
 pub returns-in-Sends : goal.returns-in-Sends
-returns-in-Sends c = fault-read c.args.frame.now (says c.in-Sends.src c.in-Sends.dst (plain_letter c.in-Sends.letter)) c.in-Sends.ensures
+returns-in-Sends c =
+    let said = saying_of c.in-Sends.letter in
+    sym (no_fault_said c.in-Sends.src c.in-Sends.dst said) ∙ fault-read c.args.frame.now (says_so c.in-Sends.src c.in-Sends.dst said) c.in-Sends.ensures

@@ -1,7 +1,7 @@
 use Rattle.std.proofs.Common.{sym, tests, rules}
 use Rattle.std.proofs.Common.{◌≡◌, ◌==◌, true, false}
-use Rattle.mc_base.specs.Letter.{plain_letter}
-use Rattle.mc_base.proofs.Readings.{reads_announcement, reads_frame_fault, reads_letter, reads_letter_fault, reads_ns_fault}
+use Rattle.mc_base.specs.Letter.{saying_of}
+use Rattle.mc_base.proofs.Readings.{reads_announcement, reads_frame_fault, reads_saying, reads_letter_fault, reads_ns_fault}
 use Rattle.name_service.proofs.said.read_frame.Goals as goal
 
 pub returns-in-Err : goal.returns-in-Err
@@ -24,7 +24,7 @@ pub returns-in-Ok-read_letter : goal.returns-in-Ok-read_letter
 returns-in-Ok-read_letter c =
     let f = c.in-Ok.frame in
     let to_endpoint : (f.dst == 53) ≡ false = search (rules, tests) in
-    sym (reads_letter c.args.frame.now f.payload.now f.src f.dst (plain_letter c.in-Ok-read_letter.letter) c.in-Ok.ensures.sound c.in-Ok.ensures.fault to_endpoint c.in-Ok-read_letter.ensures.fault c.in-Ok-read_letter.ensures.sound)
+    sym (reads_saying c.args.frame.now f.payload.now f.src f.dst (saying_of c.in-Ok-read_letter.letter) c.in-Ok.ensures.sound c.in-Ok.ensures.fault to_endpoint c.in-Ok-read_letter.ensures.fault c.in-Ok-read_letter.ensures.sound)
 
 pub returns-in-Err-read_letter : goal.returns-in-Err-read_letter
 returns-in-Err-read_letter c =
