@@ -12,7 +12,7 @@ use mc_base::{Fate, Kind, Letter, Side};
 impl Channel {
     /// Does what a letter from this peer asks for, and returns the word of its frame. `has_ended` tells afterwards whether the
     /// channel ended. A packet or a scalar that is to be kept is `Queued`; the domain hands it to a receive that waits. A
-    /// message or a Connect is out of place here: `State`.
+    /// message or a Connect is out of place here: `State`. A part of a packet counts as the packet that its bytes are.
     pub fn letter(&mut self, from: u8, letter: &Letter<'_>) -> Fate
         ensures word { result ≡ (end_row_of from (kept_end self.old) (plain_letter letter.now)).word }
         ensures left { kept_end self.new ≡ (end_row_of from (kept_end self.old) (plain_letter letter.now)).leaves }
@@ -36,7 +36,7 @@ impl Channel {
             Letter::RecvClose { .. } | Letter::SendClose { .. } if !self.far_closed => {
                 self.far_closed = true;
             }
-            Letter::Packet { .. } => return self.data(Kind::Packet),
+            Letter::Packet { .. } | Letter::PacketPart { .. } => return self.data(Kind::Packet),
             Letter::Scalar { .. } => return self.data(Kind::Scalar),
             _ => return Fate::State,
         }
@@ -56,11 +56,12 @@ impl Channel {
             }
             Letter::SendOpen { channel }
             | Letter::Packet { channel, .. }
+            | Letter::PacketPart { channel, .. }
             | Letter::Scalar { channel, .. }
             | Letter::SendClose { channel } => {
                 self.side == Side::Receiver && self.number == channel && self.owner == from
             }
-            Letter::Msg { .. } | Letter::Connect { .. } => false,
+            Letter::Msg { .. } | Letter::MsgPart { .. } | Letter::Connect { .. } => false,
         }
     }
 
