@@ -10,10 +10,10 @@ use Rattle.board_model.specs.Journal.{Line, PlainAnswer, agrees, noted_all}
 use Rattle.board_model.specs.Labels.{success_packet}
 use Rattle.board_model.specs.Lists.{without}
 use Rattle.board_model.specs.State as state
+use Rattle.board_model.specs.State.{frames_from}
 use Rattle.board_model.specs.Answer.{answer, puts, refusal, success_puts, unless_refused}
 use Rattle.board_model.specs.Change.{changed_all}
 use Rattle.board_model.specs.CallChanges.{effect, returned, success_changes, success_returned}
-use Rattle.board_model.specs.Given.{frames_from}
 use Rattle.board_model.specs.Serial.{put_entry}
 use Rattle.board_model.specs.Unnamed.{no_names, unnamed, unnamed_item}
 use Rattle.board_model.proofs.RenamedGiven.{returned-renamed}

@@ -1,6 +1,7 @@
 -- What the steps of the calls mean that make, open and close channels.
 use Rattle.std.proofs.Common.{◌≡◌, ℕ, zero, suc, ◌+◌, Bool, true, false, cond, List, [], ◌∷◌, ◌++◌, length, map, Option, Some, None, refl, sym, ap, ◌∙◌, subst}
 use Rattle.std.specs.Prelude.{Ok, find, option_map, position, slice_get, unwrap_or, ◌==◌}
+use Rattle.std.specs.List.{flat_map}
 use Rattle.std.proofs.lemmas.List.{append-nil}
 use Rattle.mc_base.specs.Frame.{made}
 use Rattle.mc_base.specs.Letter.{connect, spelling}
@@ -15,11 +16,11 @@ use Rattle.mc_base.specs.declared.request.Slot.{Slot}
 use Rattle.board_model.proofs.MessageAlls.{found-passes}
 use Rattle.board_model.proofs.MessageLists.{changed-position}
 use Rattle.board_model.proofs.StateEnds.{ByAddress, by_address, named_so}
-use Rattle.board_model.specs.Answer.{Post, address_of, channel_at, closing_letter, opening_letter, put_of, success, success_puts}
+use Rattle.board_model.specs.Answer.{Post, address_of, channel_at, closing_letter, opening_letter, post, puts_of, success, success_puts}
 use Rattle.board_model.specs.Journal.{tells}
 use Rattle.board_model.specs.CallChanges.{at_channel, at_end, at_live, closing, new_sender, success_changes}
 use Rattle.board_model.specs.Change as change
-use Rattle.board_model.specs.Change.{Change, buffer_used, changed, changed_all, with_channel, without_queue}
+use Rattle.board_model.specs.Change.{Change, buffers_used, changed, changed_all, with_channel, without_queue}
 use Rattle.board_model.specs.ChannelEnds.{closed_end, connecting_end, opened_end}
 use Rattle.board_model.specs.DomainCall.{close_at, connect_from, open_at}
 use Rattle.board_model.specs.Lists as lists
@@ -53,11 +54,12 @@ use Rattle.domain_parts.specs.Stores.{KeepsBut}
 use Rattle.domain_parts.specs.VisitMoves.{putting}
 use Rattle.domain_parts.proofs.Asking.{asked-state}
 use Rattle.domain_parts.proofs.Beginning.{last-ids}
-use Rattle.domain_parts.proofs.CallsAgree.{returned-agrees, send-agrees, there_at}
+use Rattle.domain_parts.proofs.CallsAgree.{raw-agrees, returned-agrees, there_at}
 use Rattle.domain_parts.proofs.Channels.{as-end, end-as, ends-as, posts-are}
 use Rattle.domain_parts.proofs.Completing.{ids-all}
 use Rattle.domain_parts.proofs.Dropping.{IsLeft, all-left, drops-moves, moves-cons}
 use Rattle.domain_parts.proofs.Ending.{ids_in}
+use Rattle.domain_parts.proofs.OneFrame.{closing-single, opening-single, post-single}
 use Rattle.domain_parts.proofs.Removing.{gone-items}
 use Rattle.domain_parts.proofs.StateFits.{ends-of}
 use Rattle.domain_parts.proofs.Stepping.{did-then, done-append, quiet-peers}
@@ -68,8 +70,8 @@ use Rattle.domain_parts.proofs.TurnSteps.{receives_ended-keeps}
 
 -- ---- steps as changes
 
-pub used-is : (p : Parts) → Sound p → (n : ℕ) (frame : List ℕ) (j : ℕ) → Some j ≡ position (λ (x : Peer LaneSeen). x.number == n) p.peers → state_of (done (frame_put n frame) p) ≡ changed (state_of p) (buffer_used n)
-used-is p sound n frame j at = frame_put-is p n frame sound j at ∙ send-agrees (state_of p) 0 0 (record { domain = n; node = 0; port = 0 }) 0 []
+pub used-is : (p : Parts) → Sound p → (n : ℕ) (frame : List ℕ) (j : ℕ) → Some j ≡ position (λ (x : Peer LaneSeen). x.number == n) p.peers → state_of (done (frame_put n frame) p) ≡ changed (state_of p) (buffers_used n 1)
+used-is p sound n frame j at = frame_put-is p n frame sound j at ∙ raw-agrees (state_of p) 0 n []
 
 pub begun-is : (p : Parts) (id : RequestId) (a : Ask) (o : Option Complete) → id.serial ≡ p.requests.given → state_of (done (request_begun id a o) p) ≡ changed (state_of p) (change.request_added (asked_in a) (option_map (outcome_in p.book) o))
 begun-is p id a o serial =
@@ -187,7 +189,7 @@ module _ (p : Parts) (sound : Sound p) (at : Local) (i : ℕ) (there : place_at 
         ∙ ap (λ (u : DomainState). changed u change.channel_given) (begun-is p2 id (ask.Connect number) None fresh.serial)
         ∙ ap (λ (u : DomainState). changed_all u (change.request_added (state.channel_of number) None ∷ change.channel_given ∷ [])) set
         ∙ ap (λ (u : DomainState). changed_all u (change.channel_set the.0.address (Some (new_sender s to kind)) ∷ change.request_added (state.channel_of number) None ∷ change.channel_given ∷ [])) used
-        ∙ sym (ap (λ (o : Option state.Endpoint). changed_all s (at_live o (λ e. buffer_used to.domain ∷ change.channel_set e.address (Some (new_sender s to kind)) ∷ change.request_added (state.channel_of number) None ∷ change.channel_given ∷ []))) the.1)
+        ∙ sym (ap (λ (o : Option state.Endpoint). changed_all s (at_live o (λ e. buffers_used to.domain 1 ∷ change.channel_set e.address (Some (new_sender s to kind)) ∷ change.request_added (state.channel_of number) None ∷ change.channel_given ∷ []))) the.1)
 
     pub connect-means : Means p at.node (connect_from at.port to kind) (Some id)
     connect-means = record {
@@ -226,7 +228,7 @@ module _ (p : Parts) (sound : Sound p) (at : Local) (i : ℕ) (there : place_at 
       open_list = frame_put c.peer open_frame ∷ channel_set i open_end ∷ []
 
       pub open-puts : success_puts s at.node (open_at at.port side kind) ≡ (c.peer, open_frame) ∷ []
-      open-puts = ap (map put_of) (posts-are s at a c address has (opening_letter side))
+      open-puts = ap (flat_map puts_of) (posts-are s at a c address has (opening_letter side)) ∙ post-single (post c.peer a c.peer_address (opening_letter side c.number)) (opening-single side c.number)
 
       pub open-steps : call_steps p at.node (open_at at.port side kind) None ≡ open_list
       open-steps =
@@ -241,7 +243,7 @@ module _ (p : Parts) (sound : Sound p) (at : Local) (i : ℕ) (there : place_at 
           set-is p1 at i the.0 there by.changes open_end
           ∙ ap (λ (x : ChannelEnd). changed (state_of p1) (change.channel_set the.0.address (Some x))) (end-as (opened_end c))
           ∙ ap (λ (u : DomainState). changed u (change.channel_set the.0.address (Some (opened_end c)))) (used-is p sound c.peer open_frame j peer)
-          ∙ ap (changed_all s) (sym (end-changes (λ e d. buffer_used d.peer ∷ change.channel_set e.address (Some (opened_end d)) ∷ [])))
+          ∙ ap (changed_all s) (sym (end-changes (λ e d. buffers_used d.peer 1 ∷ change.channel_set e.address (Some (opened_end d)) ∷ [])))
 
       pub open-means : Means p at.node (open_at at.port side kind) None
       open-means = record {
@@ -269,7 +271,7 @@ module _ (p : Parts) (sound : Sound p) (at : Local) (i : ℕ) (there : place_at 
     close_list side = frame_put c.peer (close_frame side) ∷ (emptying side i at (slots_at p.records i) ++ channel_set i close_end ∷ [])
 
     pub close-puts : (side : Side) → success_puts s at.node (close_at at.port side) ≡ (c.peer, close_frame side) ∷ []
-    close-puts side = ap (map put_of) (posts-are s at a c address has (closing_letter side))
+    close-puts side = ap (flat_map puts_of) (posts-are s at a c address has (closing_letter side)) ∙ post-single (post c.peer a c.peer_address (closing_letter side c.number)) (closing-single side c.number)
 
     pub close-steps : (side : Side) → call_steps p at.node (close_at at.port side) None ≡ close_list side
     close-steps side =

@@ -1,13 +1,16 @@
 -- How many buffers of one peer wait, were handed and stand in the book.
-use Rattle.std.proofs.Common.{◌≡◌, ℕ, zero, suc, ◌+◌, ◌*◌, ◌<◌, ◌≤◌, Bool, true, false, cond, List, [], ◌∷◌, length, map, take, Option, Some, None, refl, sym, ap, ◌∙◌, subst, arith, ne_eqb, is_some, add-one}
+use Rattle.std.proofs.Common.{◌≡◌, ℕ, zero, suc, ◌+◌, ◌*◌, ◌<◌, ◌≤◌, Bool, true, false, cond, List, [], ◌∷◌, ◌++◌, length, map, take, Option, Some, None, refl, sym, ap, ◌∙◌, subst, arith, ne_eqb, is_some, add-one}
 use Rattle.std.specs.Prelude.{count_by, filter, flat_map, is_none, nat_lt, option_and_then, option_map, option_to_list, position, slice_get, ◌==◌, ◌&&◌, ◌-◌}
 use Rattle.std.specs.List.{AllByRecursion}
 use Rattle.std.proofs.lemmas.Bool.{ltb-true, ltb-false}
 use Rattle.std.proofs.lemmas.List.{length-map, take_all}
+use Rattle.std.proofs.lemmas.List.Sums.{sum_by-append}
+use Rattle.std.proofs.lemmas.Simd.{map-map}
 use Rattle.mc_base.specs.declared.request.PacketId.{PacketId}
 use Rattle.mc_base.specs.declared.request.Slot.{Slot}
 use Rattle.board_model.specs.State as state
-use Rattle.board_model.specs.State.{LentPacket, Request, is_from, lent_from, queued_from}
+use Rattle.board_model.specs.State.{Item, LentPacket, Request, frames_from, is_from, lent_from, queued_from}
+use Rattle.board_model.proofs.LaneTakes.{weight, weighed-is}
 use Rattle.board_model.proofs.ListsCounts.{count-append, count-cons}
 use Rattle.board_model.proofs.MessageVisitLines.{count-map}
 use Rattle.buffer_book.specs.Book as book
@@ -22,7 +25,7 @@ use Rattle.request_set.specs.Requests.{Requests, Standing}
 use Rattle.domain_parts.specs.LaneSeen.{LaneSeen}
 use Rattle.domain_parts.specs.declared.peer.Peer.{Peer}
 use Rattle.domain_parts.specs.AllMoved.{numbers_of}
-use Rattle.domain_parts.specs.InBook.{numbered_at, item_in, packets_in, requests_in}
+use Rattle.domain_parts.specs.InBook.{numbered_at, item_in, packet_in, packets_in, requests_in}
 use Rattle.domain_parts.specs.InPlaces.{AreInPlaces, EachInPlace, is_of, is_same, one_if, slot_at, slots_of, times_in}
 use Rattle.domain_parts.specs.InRequests.{handed_slots, slots_in}
 use Rattle.domain_parts.specs.Out.{Out}
@@ -36,37 +39,46 @@ use Rattle.domain_parts.proofs.Waits.{items-are}
 
 -- ---- what waits, and what was handed
 
-waiting-from : (b : Book) (peer : ℕ) (ws : List Waiting) → count_by (is_from peer) (map (item_in b) ws) ≡ count_by (is_of peer) (slots ws)
-waiting-from b peer [] = refl
-waiting-from b peer (w ∷ ws) =
-    count-cons (is_from peer) (item_in b w) (map (item_in b) ws)
-    ∙ ap (λ (k : ℕ). one_if (w.slot.peer == peer) + k) (waiting-from b peer ws)
-    ∙ sym (count-cons (is_of peer) w.slot (slots ws))
+-- as many frames of items came from a peer as are in its slots, where each item has the one frame in its slot
+module _ (peer : ℕ) {X : Type 0} (item : X → Item) (slot : X → Slot) (one : (x : X) → ((item x).peer ≡ (slot x).peer) × ((item x).frames ≡ (slot x).buffer ∷ [])) where
+  frames-counted : (xs : List X) → length (frames_from peer (map item xs)) ≡ count_by (λ x. is_of peer (slot x)) xs
+  frames-counted [] = refl
+  frames-counted (x ∷ xs) =
+      go ((item x).peer == peer) (frames-counted xs)
+      ∙ ap (λ (n : ℕ). one_if (n == peer) + count_by (λ y. is_of peer (slot y)) xs) (one x).0
+      ∙ sym (count-cons (λ y. is_of peer (slot y)) x xs)
+    where
+      go : (t : Bool) → length (frames_from peer (map item xs)) ≡ count_by (λ y. is_of peer (slot y)) xs
+          → length (flat_map (λ (i : Item). i.frames) (cond t (item x ∷ filter (is_from peer) (map item xs)) (filter (is_from peer) (map item xs)))) ≡ one_if t + count_by (λ y. is_of peer (slot y)) xs
+      go true rest = let is = ap (λ (ns : List ℕ). length (ns ++ frames_from peer (map item xs))) (one x).1 in omega (arith, rest, is)
+      go false rest = omega (arith, rest)
 
-handed-from : (b : Book) (peer : ℕ) (ss : List Slot) → count_by (is_from peer) (map (numbered_at b) ss) ≡ count_by (is_of peer) ss
-handed-from b peer [] = refl
-handed-from b peer (s ∷ ss) =
-    count-cons (is_from peer) (numbered_at b s) (map (numbered_at b) ss)
-    ∙ ap (λ (k : ℕ). one_if (s.peer == peer) + k) (handed-from b peer ss)
-    ∙ sym (count-cons (is_of peer) s ss)
+waiting-from : (b : Book) (peer : ℕ) (ws : List Waiting) → length (frames_from peer (map (item_in b) ws)) ≡ count_by (is_of peer) (slots ws)
+waiting-from b peer ws = frames-counted peer (item_in b) (λ w. w.slot) (λ w. (refl, refl)) ws ∙ sym (count-map (is_of peer) (λ (w : Waiting). w.slot) ws)
 
-packets-from : (b : Book) (peer : ℕ) (ids : List PacketId) → count_by (is_from peer) (map (λ (p : LentPacket). p.item) (packets_in b ids)) ≡ count_by (λ (i : PacketId). i.peer == peer) ids
-packets-from b peer [] = refl
-packets-from b peer (i ∷ ids) =
-    count-cons (is_from peer) (numbered_at b (slot_of i)) (map (λ (p : LentPacket). p.item) (packets_in b ids))
-    ∙ ap (λ (k : ℕ). one_if (i.peer == peer) + k) (packets-from b peer ids)
-    ∙ sym (count-cons (λ (x : PacketId). x.peer == peer) i ids)
+handed-from : (b : Book) (peer : ℕ) (ss : List Slot) → length (frames_from peer (map (numbered_at b) ss)) ≡ count_by (is_of peer) ss
+handed-from b peer ss = frames-counted peer (numbered_at b) (λ s. s) (λ s. (refl, refl)) ss
+
+packets-from : (b : Book) (peer : ℕ) (ids : List PacketId) → length (frames_from peer (map (λ (p : LentPacket). p.item) (packets_in b ids))) ≡ count_by (λ (i : PacketId). i.peer == peer) ids
+packets-from b peer ids =
+    ap (λ (is : List Item). length (frames_from peer is)) (map-map (λ (p : LentPacket). p.item) (packet_in b) ids)
+    ∙ frames-counted peer (λ i. numbered_at b (slot_of i)) slot_of (λ i. (refl, refl)) ids
 
 -- as the state tells them
 module _ {L : Type 0} (v : L → LaneSeen) (b : Book) (r : Records) (q : Requests) (t : endpoint_table.Table) (ps : List (Peer L)) (peer : ℕ) where
   pub queued-is : queued_from peer (state_in v b r q t ps) ≡ count_by (is_of peer) (slots (all_waiting r.endpoints))
-  queued-is = ap (count_by (is_from peer)) (items-are b r.endpoints) ∙ waiting-from b peer (all_waiting r.endpoints)
+  queued-is =
+      let is = ap (λ (is : List Item). length (frames_from peer is)) (items-are b r.endpoints) ∙ waiting-from b peer (all_waiting r.endpoints) in
+      omega (arith, is)
 
   pub lent-is : lent_from peer (state_in v b r q t ps) ≡ count_by (λ (i : PacketId). i.peer == peer) r.lent + count_by (is_of peer) (handed_slots q.standing)
   lent-is =
-      count-append (is_from peer) (map (λ (p : LentPacket). p.item) (packets_in b r.lent)) (flat_map (λ (x : Request). state.item_in x.outcome) (requests_in b q.standing))
-      ∙ ap (λ (k : ℕ). k + count_by (is_from peer) (flat_map (λ (x : Request). state.item_in x.outcome) (requests_in b q.standing))) (packets-from b peer r.lent)
-      ∙ ap (λ (k : ℕ). count_by (λ (i : PacketId). i.peer == peer) r.lent + k) (ap (count_by (is_from peer)) (items-handed b q.standing) ∙ handed-from b peer (handed_slots q.standing))
+      let packets = map (λ (p : LentPacket). p.item) (packets_in b r.lent) in
+      let handed = flat_map (λ (x : Request). state.item_in x.outcome) (requests_in b q.standing) in
+      let lent = packets-from b peer r.lent in
+      let hands = ap (λ (is : List Item). length (frames_from peer is)) (items-handed b q.standing) ∙ handed-from b peer (handed_slots q.standing) in
+      let both = sum_by-append (weight peer) packets handed in
+      omega (arith, lent, hands, both, weighed-is peer (packets ++ handed), weighed-is peer packets, weighed-is peer handed)
 
 -- ---- what the book has of a peer
 

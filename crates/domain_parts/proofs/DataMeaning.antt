@@ -1,6 +1,7 @@
 -- What the steps of the calls mean that send and receive items on channels.
 use Rattle.std.proofs.Common.{◌≡◌, ℕ, Bool, true, false, cond, List, [], ◌∷◌, ◌++◌, drop, length, map, Option, Some, None, refl, sym, ap, ◌∙◌, subst, arith}
 use Rattle.std.specs.Prelude.{Err, Ok, Result, not, option_and_then, option_map, option_to_list, position, slice_get, ◌==◌}
+use Rattle.std.specs.List.{flat_map}
 use Rattle.std.proofs.lemmas.List.{append-nil}
 use Rattle.mc_base.specs.Frame.{made}
 use Rattle.byteorder.specs.Endian.{little_number}
@@ -12,10 +13,10 @@ use Rattle.mc_base.specs.declared.refusal.Refusal.{Refusal}
 use Rattle.mc_base.specs.declared.refusal.Refusal.TheVariants.{Empty, SclSize}
 use Rattle.mc_base.specs.declared.refusal.SclSize as size
 use Rattle.mc_base.specs.declared.request.Slot.{Slot}
-use Rattle.board_model.specs.Answer.{channel_at, is_of_other_size, over_end, refusal, put_of, success_posts, success_puts, value_of}
+use Rattle.board_model.specs.Answer.{channel_at, is_of_other_size, over_end, post, puts_of, refusal, success_posts, success_puts, value_of}
 use Rattle.board_model.specs.CallChanges.{at_end, at_live, success_changes, success_returned}
 use Rattle.board_model.specs.ChannelEnds.{end_refusal, receives}
-use Rattle.board_model.specs.Change.{buffer_used, changed, changed_all, oldest_gone, with_queue}
+use Rattle.board_model.specs.Change.{buffers_used, changed, changed_all, oldest_gone, with_queue}
 use Rattle.board_model.specs.Choice.{oldest}
 use Rattle.board_model.specs.DomainCall.{DomainCall, scalar_at}
 use Rattle.board_model.specs.Journal.{tells}
@@ -43,6 +44,7 @@ use Rattle.domain_parts.proofs.Channels.{answered-none, answered-word, data-word
 use Rattle.domain_parts.proofs.Ending.{ids_in}
 use Rattle.domain_parts.proofs.Dropping.{one-dropped}
 use Rattle.domain_parts.proofs.Meaning.{one-gave, one-put}
+use Rattle.domain_parts.proofs.OneFrame.{IsSingle, post-single}
 use Rattle.domain_parts.proofs.Removing.{gone-items}
 use Rattle.domain_parts.proofs.StateFits.{ends-of}
 use Rattle.domain_parts.proofs.Steps.{oldest_dropped-left}
@@ -55,15 +57,15 @@ module _ (p : Parts) (sound : Sound p) (at : Local) (i : ℕ) (there : place_at 
   abbrev frame : List ℕ
   frame = made a c.peer_address (spelling (letter c.number))
 
-  pub data-puts : success_puts (state_of p) at.node call ≡ map put_of (success_posts (state_of p) at.node call) → success_posts (state_of p) at.node call ≡ over_end (state_of p) at letter → success_puts (state_of p) at.node call ≡ (c.peer, frame) ∷ []
-  data-puts puts posts = puts ∙ ap (map put_of) (posts ∙ posts-are (state_of p) at a c address has letter)
+  pub data-puts : success_puts (state_of p) at.node call ≡ flat_map puts_of (success_posts (state_of p) at.node call) → success_posts (state_of p) at.node call ≡ over_end (state_of p) at letter → IsSingle (letter c.number) → success_puts (state_of p) at.node call ≡ (c.peer, frame) ∷ []
+  data-puts puts posts single = puts ∙ ap (flat_map puts_of) (posts ∙ posts-are (state_of p) at a c address has letter) ∙ post-single (post c.peer a c.peer_address (letter c.number)) single
 
   pub data-means : success_puts (state_of p) at.node call ≡ (c.peer, frame) ∷ [] → call_steps p at.node call None ≡ putting_all (success_puts (state_of p) at.node call)
-      → success_changes (state_of p) at.node call ≡ at_end (live_at (state_of p) at) (λ e d. buffer_used d.peer ∷ []) → success_returned (state_of p) at.node call ≡ [] → success_ends (state_of p) call ≡ None → success_releases call ≡ None → success_packet (state_of p) call ≡ None → Means p at.node call None
+      → success_changes (state_of p) at.node call ≡ at_end (live_at (state_of p) at) (λ e d. buffers_used d.peer 1 ∷ []) → success_returned (state_of p) at.node call ≡ [] → success_ends (state_of p) call ≡ None → success_releases call ≡ None → success_packet (state_of p) call ≡ None → Means p at.node call None
   data-means puts steps changes back ends releases lends =
       let is = steps ∙ ap putting_all puts in
       record {
-        state = ap (λ (cs : List Step). state_of (done_all cs p)) is ∙ used-is p sound c.peer frame j peer ∙ ap (changed_all (state_of p)) (sym (changes ∙ end-changes p sound at i there c has a address j peer (λ e d. buffer_used d.peer ∷ [])));
+        state = ap (λ (cs : List Step). state_of (done_all cs p)) is ∙ used-is p sound c.peer frame j peer ∙ ap (changed_all (state_of p)) (sym (changes ∙ end-changes p sound at i there c has a address j peer (λ e d. buffers_used d.peer 1 ∷ [])));
         slots = [];
         returned = sym back;
         moves = λ n. ap (λ (cs : List Step). all_moves cs n) is ∙ one-put c.peer frame (c.peer == n) ∙ ap (λ (fs : List (ℕ × List ℕ)). moves_at fs [] n) (sym puts);

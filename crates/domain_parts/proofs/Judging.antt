@@ -5,23 +5,26 @@ use Rattle.std.specs.List.{list_any}
 use Rattle.std.specs.Prelude.{◌||◌, ◌==◌, find, is_some, nat_le, not, option_and_then, option_map, position, slice_get}
 use Rattle.std.proofs.lemmas.List.{length-map}
 use Rattle.std.proofs.lemmas.Option.{slice_get-map, slice_get_within}
-use Rattle.mc_base.specs.Letter.{PlainLetter, msg}
+use Rattle.mc_base.specs.Letter.{Piece, PlainLetter, msg, piece_in, plain_letter, saying_by, saying_of}
 use Rattle.mc_base.specs.NameMap.{Names, address_in, forgotten, has_name}
-use Rattle.mc_base.specs.Reading.{reading, says}
+use Rattle.mc_base.specs.Reading.{Reading, brings as brings_part, reading, says, says_so}
 use Rattle.mc_base.specs.declared.channel.Kind.{Kind}
 use Rattle.mc_base.specs.declared.channel.Reason.{Reason}
 use Rattle.mc_base.specs.declared.channel.Reason.TheVariants as reason
 use Rattle.mc_base.specs.declared.fate.Fate.TheVariants as fate
+use Rattle.mc_base.specs.declared.letter.Letter.{Letter}
 use Rattle.mc_base.specs.declared.name.EndName.{EndName}
 use Rattle.mc_base.specs.declared.name.Local.{Local}
 use Rattle.mc_base.specs.declared.request.RequestId.{RequestId}
 use Rattle.board_model.specs.Change.{channel_set, item_handed, item_queued, reply_owed}
 use Rattle.board_model.specs.ChannelEnds.{accepted_end}
+use Rattle.board_model.specs.Parts.{Came, part_of}
 use Rattle.board_model.specs.State as state
 use Rattle.board_model.specs.State.{DomainState, Item, endpoint_of, has_address_of, peer_at, place_of_address}
 use Rattle.board_model.specs.TakenFrames as taken
-use Rattle.board_model.specs.TakenFrames.{Row, accepting, connect_rows, first_row, is_busy, letter_rows, rejecting, replies_to, reply_limit, row, row_of}
+use Rattle.board_model.specs.TakenFrames.{Row, accepting, connect_rows, first_row, is_busy, letter_rows, rejecting, replies_to, reply_limit, row, row_from, row_of}
 use Rattle.board_model.proofs.MessageLists.{get-position, some-position}
+use Rattle.board_model.proofs.WholeFrames.{came_alone, row-alone}
 use Rattle.buffer_book.specs.Book.{Book}
 use Rattle.packet_channel.specs.End.{end_of}
 use Rattle.packet_channel.specs.declared.channel.Channel.{Channel}
@@ -152,37 +155,37 @@ module _ (b : Book) (d : Desk) (s : DomainState) (peer : ℕ) (shows : Shows s p
       named_so : (l : Local) → local_of d.records at ≡ Some l → e.local ≡ l
       named_so l is = let both = sym (ap (option_map (λ (x : Endpoint). x.local)) get) ∙ is in cc
 
-      pub brought-judged : (name : Option ℕ) (source : ℕ) (l : PlainLetter) → its ≡ letter_row s name peer source dst l → item ≡ taken.item_of peer name source l → IsItem l → AreReceives d.requests → (priority size : ℕ) → priority ≡ item.priority → size ≡ length item.content → (v : Verdict) → Brings d.records d.requests at priority size v → IsJudged s name peer source dst l v d d
-      brought-judged name source l row_is item_is lawful receives priority size prior long (verdict.Queued i p n) brings =
+      pub brought-judged : (came : Came) (source : ℕ) (l : PlainLetter) → its ≡ letter_row s came peer source dst l → item ≡ taken.item_of peer came source l → IsItem l → AreReceives d.requests → (priority size : ℕ) → priority ≡ item.priority → size ≡ length item.content → (v : Verdict) → Brings d.records d.requests at priority size v → IsJudged s came peer source dst l v d d
+      brought-judged came source l row_is item_is lawful receives priority size prior long (verdict.Queued i p n) brings =
           let waits = brings.3 in (
             lawful,
             brings.2 ∙ long ∙ ap (λ (x : Item). length x.content) item_is,
             brings.1 ∙ prior ∙ ap (λ (x : Item). x.priority) item_is,
-            subst (λ (j : ℕ). IsQueued s (letter_row s name peer source dst l) (taken.item_of peer name source l) j) (sym brings.0)
-                (subst (λ (x : Item). IsQueued s (letter_row s name peer source dst l) x at) item_is (subst (λ (x : Row). IsQueued s x item at) row_is (brought-queued (subst (λ (x : Local). None ≡ oldest_waiting d.requests x) (sym (named_so waits.at waits.there)) waits.none)))),
+            subst (λ (j : ℕ). IsQueued s (letter_row s came peer source dst l) (taken.item_of peer came source l) j) (sym brings.0)
+                (subst (λ (x : Item). IsQueued s (letter_row s came peer source dst l) x at) item_is (subst (λ (x : Row). IsQueued s x item at) row_is (brought-queued (subst (λ (x : Local). None ≡ oldest_waiting d.requests x) (sym (named_so waits.at waits.there)) waits.none)))),
             refl,
           )
-      brought-judged name source l row_is item_is lawful receives priority size prior long (verdict.Handed id a n) brings =
+      brought-judged came source l row_is item_is lawful receives priority size prior long (verdict.Handed id a n) brings =
           let waits = brings.1 in (
             lawful,
             brings.0 ∙ long ∙ ap (λ (x : Item). length x.content) item_is,
-            subst (λ (x : Item). IsHanded s d.requests (letter_row s name peer source dst l) x id a) item_is (subst (λ (x : Row). IsHanded s d.requests x item id a) row_is (brought-handed id a receives waits.pending (subst (λ (x : Local). Some id ≡ oldest_waiting d.requests x) (sym (named_so waits.at waits.there)) waits.oldest) waits.asks (subst (λ (x : Local). receives_at x a ≡ true) (sym (named_so waits.at waits.there)) waits.receives))),
+            subst (λ (x : Item). IsHanded s d.requests (letter_row s came peer source dst l) x id a) item_is (subst (λ (x : Row). IsHanded s d.requests x item id a) row_is (brought-handed id a receives waits.pending (subst (λ (x : Local). Some id ≡ oldest_waiting d.requests x) (sym (named_so waits.at waits.there)) waits.oldest) waits.asks (subst (λ (x : Local). receives_at x a ≡ true) (sym (named_so waits.at waits.there)) waits.receives))),
             refl,
           )
-      brought-judged name source l row_is item_is lawful receives priority size prior long (verdict.Returned f) brings = absurd brings
+      brought-judged came source l row_is item_is lawful receives priority size prior long (verdict.Returned f) brings = absurd brings
 
     -- ---- a message
 
-    module _ (name : Option ℕ) (source priority : ℕ) (content : List ℕ) where
-      pub message-row : None ≡ e.channel → letter_row s name peer source dst (msg priority content) ≡ item_row (taken.message_item peer name source priority content)
+    module _ (came : Came) (source priority : ℕ) (content : List ℕ) where
+      pub message-row : None ≡ e.channel → letter_row s came peer source dst (msg priority content) ≡ item_row (taken.message_item peer came source priority content)
       message-row none =
-          ap (λ o. first_row (letter_rows s peer name source dst o (msg priority content))) end-there
-          ∙ ap (λ o. first_row (taken.message_rows s dst (endpoint_in b e) (option_map end_of o) (taken.message_item peer name source priority content))) (sym none)
+          ap (λ o. first_row (letter_rows s peer came source dst o (msg priority content))) end-there
+          ∙ ap (λ o. first_row (taken.message_rows s dst (endpoint_in b e) (option_map end_of o) (taken.message_item peer came source priority content))) (sym none)
 
-      pub on-channel : (c : Channel) → Some c ≡ e.channel → letter_row s name peer source dst (msg priority content) ≡ row true fate.OnChannel []
+      pub on-channel : (c : Channel) → Some c ≡ e.channel → letter_row s came peer source dst (msg priority content) ≡ row true fate.OnChannel []
       on-channel c some =
-          ap (λ o. first_row (letter_rows s peer name source dst o (msg priority content))) end-there
-          ∙ ap (λ o. first_row (taken.message_rows s dst (endpoint_in b e) (option_map end_of o) (taken.message_item peer name source priority content))) (sym some)
+          ap (λ o. first_row (letter_rows s peer came source dst o (msg priority content))) end-there
+          ∙ ap (λ o. first_row (taken.message_rows s dst (endpoint_in b e) (option_map end_of o) (taken.message_item peer came source priority content))) (sym some)
 
 -- ---- Connects
 
@@ -257,19 +260,37 @@ module _ (b : Book) (d : Desk) (s : DomainState) (peer : ℕ) (shows : Shows s p
 
 -- ---- the frame that says the letter
 
-module _ (s : DomainState) (name : Option ℕ) (peer src dst : ℕ) (frame : List ℕ) (bytes : AreBytes frame) (l : PlainLetter) (is : says src dst l ≡ reading frame) where
-  row_so : letter_row s name peer src dst l ≡ row_of s peer name (reading frame)
-  row_so = ap (row_of s peer name) is
+module _ (s : DomainState) (name : Option ℕ) (peer src dst : ℕ) (closed : part_of s peer ≡ None) (frame : List ℕ) (bytes : AreBytes frame) (l : PlainLetter) (is : says src dst l ≡ reading frame) where
+  abbrev came : Came
+  came = came_alone name
 
-  pub judged-verdict : (v : Verdict) (d d' : Desk) → IsJudged s name peer src dst l v d d' → IsVerdict s name peer frame v d d'
+  row_so : letter_row s came peer src dst l ≡ row_from s peer name frame
+  row_so = ap (row_of s peer came) is ∙ sym (row-alone s peer name frame closed)
+
+  pub judged-verdict : (v : Verdict) (d d' : Desk) → IsJudged s came peer src dst l v d d' → IsVerdict s name peer frame v d d'
   judged-verdict (verdict.Queued place priority size) d d' j =
-      let c = item-read name peer frame bytes src dst l is j.0 in
-      let item = taken.item_of peer name src l in
-      let same : item ≡ framed_item name peer frame size = c.is ∙ ap (framed_item name peer frame) (sym j.1) in
-      (subst (λ (x : Row). IsQueued s x (framed_item name peer frame size) place) row_so (subst (λ (i : Item). IsQueued s (letter_row s name peer src dst l) i place) same j.3), subst (Fits frame) (sym j.1) c.fits, c.says ∙ sym j.2, j.4)
+      let c = item-read came peer frame bytes src dst l is j.0 in
+      let item = taken.item_of peer came src l in
+      let same : item ≡ framed_item came.names peer frame size = c.is ∙ ap (framed_item came.names peer frame) (sym j.1) in
+      (subst (λ (x : Row). IsQueued s x (framed_item came.names peer frame size) place) row_so (subst (λ (i : Item). IsQueued s (letter_row s came peer src dst l) i place) same j.3), subst (Fits frame) (sym j.1) c.fits, c.says ∙ sym j.2, j.4)
   judged-verdict (verdict.Handed id max size) d d' j =
-      let c = item-read name peer frame bytes src dst l is j.0 in
-      let item = taken.item_of peer name src l in
-      let same : item ≡ framed_item name peer frame size = c.is ∙ ap (framed_item name peer frame) (sym j.1) in
-      (subst (λ (x : Row). IsHanded s d.requests x (framed_item name peer frame size) id max) row_so (subst (λ (i : Item). IsHanded s d.requests (letter_row s name peer src dst l) i id max) same j.2), subst (Fits frame) (sym j.1) c.fits, j.3)
+      let c = item-read came peer frame bytes src dst l is j.0 in
+      let item = taken.item_of peer came src l in
+      let same : item ≡ framed_item came.names peer frame size = c.is ∙ ap (framed_item came.names peer frame) (sym j.1) in
+      (subst (λ (x : Row). IsHanded s d.requests x (framed_item came.names peer frame size) id max) row_so (subst (λ (i : Item). IsHanded s d.requests (letter_row s came peer src dst l) i id max) same j.2), subst (Fits frame) (sym j.1) c.fits, j.3)
   judged-verdict (verdict.Returned f) d d' j = subst (λ (x : Row). IsReturned s peer x f d d') row_so j
+
+-- a letter that is no part of one
+pub said-whole : (l : Letter) → piece_in l ≡ None → (src dst : ℕ) (r : Reading) → says_so src dst (saying_of l) ≡ r → says src dst (plain_letter l) ≡ r
+said-whole l none src dst r is = sym (ap (λ (o : Option Piece). says_so src dst (saying_by o (plain_letter l))) none) ∙ is
+
+-- a part goes on with none
+pub stray-returned : (s : DomainState) (name : Option ℕ) (peer src dst : ℕ) → part_of s peer ≡ None → (frame : List ℕ) (q : Piece) → brings_part src dst q ≡ reading frame → (d : Desk) → IsReturned s peer (row_from s peer name frame) fate.Stray d d
+stray-returned s name peer src dst closed frame q is d = record {
+  effect = nothing;
+  applies = true;
+  row_is = row-alone s peer name frame closed ∙ ap (row_of s peer (came_alone name)) (sym is);
+  returned = refl;
+  placed = tt;
+  left = refl;
+}

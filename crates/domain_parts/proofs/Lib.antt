@@ -64,3 +64,4 @@ pub mod VisitedAll
 pub mod WaitPlaces
 pub mod WaitSteps
 pub mod WaitEnds
+pub mod OneFrame

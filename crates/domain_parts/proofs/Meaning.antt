@@ -3,11 +3,13 @@ use Rattle.std.proofs.Common.{◌≡◌, ℕ, ◌+◌, Bool, true, false, cond, 
 use Rattle.std.specs.Prelude.{option_and_then, option_map, option_to_list, position, slice_get, ◌==◌}
 use Rattle.std.proofs.lemmas.List.{append-nil}
 use Rattle.mc_base.specs.FullName.{end_name}
+use Rattle.mc_base.specs.Letter.{msg}
+use Rattle.mc_base.specs.Pieces.{frames_needed}
 use Rattle.mc_base.specs.declared.name.EndName.{EndName}
 use Rattle.mc_base.specs.declared.name.Local.{Local}
 use Rattle.mc_base.specs.declared.request.RequestId.{RequestId}
 use Rattle.mc_base.specs.declared.request.Slot.{Slot}
-use Rattle.board_model.specs.Answer.{address_of}
+use Rattle.board_model.specs.Answer.{address_of, success_puts}
 use Rattle.board_model.specs.Choice.{best}
 use Rattle.board_model.specs.DomainCall.{available_at, cancel_of, create_at, lookup_of, raw_to, receive_at, request_at, send_from, test_of}
 use Rattle.domain_parts.specs.PlacedCalls.{best_queued, with_request}
@@ -29,9 +31,9 @@ use Rattle.domain_parts.specs.LaneSeen.{LaneSeen}
 use Rattle.domain_parts.specs.declared.endpoints.Endpoint.{Endpoint}
 use Rattle.domain_parts.specs.declared.peer.Peer.{Peer}
 use Rattle.domain_parts.specs.declared.requests.Waiters.TheVariants as waiters
-use Rattle.domain_parts.specs.AllMoved.{giving}
+use Rattle.domain_parts.specs.AllMoved.{giving, moves_at}
 use Rattle.domain_parts.specs.Calls.{IsFresh}
-use Rattle.domain_parts.specs.CallSteps.{Means, best_slot, call_steps, ending, if_some, receiving, how_held}
+use Rattle.domain_parts.specs.CallSteps.{Means, best_slot, call_steps, ending, if_some, putting_all, receiving, how_held}
 use Rattle.domain_parts.specs.DomainView.{place_of_id}
 use Rattle.domain_parts.specs.GivingBack.{IsOutAt}
 use Rattle.domain_parts.specs.InBook.{endpoints_in, numbered_at, item_in, outcome_in, request_in}
@@ -72,17 +74,17 @@ one-put d f false = refl
 
 -- ---- a message is sent
 
-pub send-means : (p : Parts) → Sound p → (node port : ℕ) (to : EndName) (priority : ℕ) (bytes : List ℕ) (i : ℕ) → Some i ≡ position (λ (x : Peer LaneSeen). x.number == to.domain) p.peers → Means p node (send_from port to priority bytes) None
-send-means p sound node port to priority bytes i there = record {
-  state = frame_put-is p to.domain _ sound i there ∙ send-agrees (state_of p) node port to priority bytes;
+pub send-means : (p : Parts) → Sound p → (node port : ℕ) (to : EndName) (priority : ℕ) (bytes frame : List ℕ) (i : ℕ) → Some i ≡ position (λ (x : Peer LaneSeen). x.number == to.domain) p.peers → frames_needed (msg priority bytes) ≡ 1 → success_puts (state_of p) node (send_from port to priority bytes) ≡ (to.domain, frame) ∷ [] → Means p node (send_from port to priority bytes) None
+send-means p sound node port to priority bytes frame i there one puts = record {
+  state = ap (λ (ps : List (ℕ × List ℕ)). state_of (done_all (putting_all ps) p)) puts ∙ (frame_put-is p to.domain frame sound i there ∙ send-agrees (state_of p) node port to priority bytes one);
   slots = [];
   returned = refl;
-  moves = λ n. one-put to.domain _ (to.domain == n);
-  stays = λ slot held other. record { held = held; item = refl };
-  ids = sym (append-nil (ids_in p.requests));
+  moves = λ n. ap (λ (ps : List (ℕ × List ℕ)). all_moves (putting_all ps) n) puts ∙ one-put to.domain frame (to.domain == n) ∙ ap (λ (ps : List (ℕ × List ℕ)). moves_at ps [] n) (sym puts);
+  stays = subst (λ (ps : List (ℕ × List ℕ)). KeepsBut [] p.book (done_all (putting_all ps) p).book) (sym puts) (keeps-but_none p.book);
+  ids = ap (λ (ps : List (ℕ × List ℕ)). ids_in (done_all (putting_all ps) p).requests) puts ∙ sym (append-nil (ids_in p.requests));
   fresh = tt;
   lent = None;
-  packets = sym (append-nil p.records.lent);
+  packets = ap (λ (ps : List (ℕ × List ℕ)). (done_all (putting_all ps) p).records.lent) puts ∙ sym (append-nil p.records.lent);
   lends = refl;
 }
 

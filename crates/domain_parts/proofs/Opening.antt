@@ -246,7 +246,7 @@ module _ {S R : Type 0} (size_to : S → ℕ) (free : S → List ℕ) (size_from
     -- ---- the state
 
     abbrev peer_with : ℕ → ℕ → ℕ → ℕ → List Announcement → state.Peer
-    peer_with n size many seen owed = record { number = n; size = size; free = many; shown = seen; announcements = owed; replies = []; known = [] }
+    peer_with n size many seen owed = record { number = n; size = size; free = many; shown = seen; announcements = owed; replies = []; known = []; part = None }
 
     peer-as : (n size many seen size' many' seen' : ℕ) (owed : List Announcement) → size ≡ size' → many ≡ many' → seen ≡ seen' → owed ≡ [] → peer_with n size many seen owed ≡ peer_with n size' many' seen' []
     peer-as n size many seen size' many' seen' owed a b c d = rw (a, b, c, d) refl

@@ -149,18 +149,18 @@ module _ (r : Records) (q : Requests) (b b' : Book) (p : Out) (peer : ℕ) (s : 
       ∙ ap (λ (ls : List LentPacket). record (held_by b r q) { lent = ls }) (packets-stay b s' (Some k) r.lent none-lent)
 
   -- the message of the frame, as many of whose bytes as it has stand in the buffer
-  item-is : item_with (Some buffer.number) peer (source_of buffer.bytes) (priority_of buffer.bytes) (channel_of buffer.bytes) (take size (drop 24 buffer.bytes)) ≡ framed_item (Some buffer.number) peer frame size
+  item-is : item_with (buffer.number ∷ []) peer (source_of buffer.bytes) (priority_of buffer.bytes) (channel_of buffer.bytes) (take size (drop 24 buffer.bytes)) ≡ framed_item (buffer.number ∷ []) peer frame size
   item-is =
-      ap (λ (n : ℕ). item_with (Some buffer.number) peer n (priority_of buffer.bytes) (channel_of buffer.bytes) (take size (drop 24 buffer.bytes))) (sym (source-in_buffer buffer.bytes len size fits))
-      ∙ ap (λ (n : ℕ). item_with (Some buffer.number) peer (source_of frame) n (channel_of buffer.bytes) (take size (drop 24 buffer.bytes))) (sym (priority-in_buffer buffer.bytes len size fits))
-      ∙ ap (λ (o : Option ℕ). item_with (Some buffer.number) peer (source_of frame) (priority_of frame) o (take size (drop 24 buffer.bytes))) (sym (channel-in_buffer buffer.bytes len size fits))
-      ∙ ap (λ (xs : List ℕ). item_with (Some buffer.number) peer (source_of frame) (priority_of frame) (channel_of frame) xs) (sym (content-in_buffer buffer.bytes len size fits))
+      ap (λ (n : ℕ). item_with (buffer.number ∷ []) peer n (priority_of buffer.bytes) (channel_of buffer.bytes) (take size (drop 24 buffer.bytes))) (sym (source-in_buffer buffer.bytes len size fits))
+      ∙ ap (λ (n : ℕ). item_with (buffer.number ∷ []) peer (source_of frame) n (channel_of buffer.bytes) (take size (drop 24 buffer.bytes))) (sym (priority-in_buffer buffer.bytes len size fits))
+      ∙ ap (λ (o : Option ℕ). item_with (buffer.number ∷ []) peer (source_of frame) (priority_of frame) o (take size (drop 24 buffer.bytes))) (sym (channel-in_buffer buffer.bytes len size fits))
+      ∙ ap (λ (xs : List ℕ). item_with (buffer.number ∷ []) peer (source_of frame) (priority_of frame) (channel_of frame) xs) (sym (content-in_buffer buffer.bytes len size fits))
 
-  item-here : numbered_at (with_queued b s' k) s' ≡ framed_item (Some buffer.number) peer frame size
-  item-here = ap (λ (o : Option Kept). item_with (Some buffer.number) peer (source_in o) (priority_in o) (channel_in o) (content_in o)) here ∙ item-is
+  item-here : numbered_at (with_queued b s' k) s' ≡ framed_item (buffer.number ∷ []) peer frame size
+  item-here = ap (λ (o : Option Kept). item_with (buffer.number ∷ []) peer (source_in o) (priority_in o) (channel_in o) (content_in o)) here ∙ item-is
 
   -- the buffer holds the message
-  pub enqueued-stored : (fate : Fate) → framed_item None peer frame size ≡ item_of peer frame → Stores peer (buffer.number ∷ []) (taken frame fate ∷ []) b b'
+  pub enqueued-stored : (fate : Fate) → framed_item (0 ∷ []) peer frame size ≡ item_of peer frame → Stores peer (buffer.number ∷ []) (taken frame fate ∷ []) b b'
   enqueued-stored fate item = subst (λ (x : Book). Stores peer (buffer.number ∷ []) (taken frame fate ∷ []) b x) (sym book-is) (record {
     stays = keeps-held b s' (Some k) away;
     stored = (λ keeps. record { held = ap (λ (o : Option Kept). is_some o) here; item = ap unnamed_item item-here ∙ item }, tt);
@@ -209,11 +209,11 @@ module _ (r : Records) (q : Requests) (b b' : Book) (p : Out) (peer : ℕ) (s : 
     pub queued-total : i < length r.endpoints → length (slots_of r' q) ≡ length (slots_of r q) + 1
     queued-total lt = ap (λ (x : Records). length (slots_of x q)) records-are ∙ length-more s' (slots ws ++ hs) (slots vs ++ hs) (more lt)
 
-    pub queued-table : table_in b' r' q ≡ with_held (table_in b r q) (record (held_by b r q) { endpoints = changed_at (queued_last (framed_item (Some buffer.number) peer frame size)) i (endpoints_in b r.endpoints) })
+    pub queued-table : table_in b' r' q ≡ with_held (table_in b r q) (record (held_by b r q) { endpoints = changed_at (queued_last (framed_item (buffer.number ∷ []) peer frame size)) i (endpoints_in b r.endpoints) })
     queued-table =
         let b'' = with_queued b s' k in
         let es = r.endpoints in
-        let item : item_in b'' w ≡ item_with (Some buffer.number) peer (source_of buffer.bytes) (priority_of buffer.bytes) (channel_of buffer.bytes) (take size (drop 24 buffer.bytes)) = ap (λ (o : Option Kept). item_with (Some buffer.number) peer (source_in o) priority (channel_in o) (content_in o)) here ∙ ap (λ (n : ℕ). item_with (Some buffer.number) peer (source_of buffer.bytes) n (channel_of buffer.bytes) (take size (drop 24 buffer.bytes))) priority-is in
+        let item : item_in b'' w ≡ item_with (buffer.number ∷ []) peer (source_of buffer.bytes) (priority_of buffer.bytes) (channel_of buffer.bytes) (take size (drop 24 buffer.bytes)) = ap (λ (o : Option Kept). item_with (buffer.number ∷ []) peer (source_in o) priority (channel_in o) (content_in o)) here ∙ ap (λ (n : ℕ). item_with (buffer.number ∷ []) peer (source_of buffer.bytes) n (channel_of buffer.bytes) (take size (drop 24 buffer.bytes))) priority-is in
         ap (λ (x : Records). table_in b' x q) records-are
         ∙ ap (λ (x : Book). table_in x (with_waiting_at r i w) q) book-is
         ∙ ap (λ (xs : List state.Endpoint). with_held (table_in b r q) (record { endpoints = xs; requests = requests_in b'' q.standing; lent = packets_in b'' r.lent })) (endpoints-more b'' w es i)
@@ -255,7 +255,7 @@ module _ (r : Records) (q : Requests) (b b' : Book) (p : Out) (peer : ℕ) (s : 
     pub handed-total : length (slots_of r q') ≡ length (slots_of r q) + 1
     handed-total = ap (λ (x : Requests). length (slots_of r x)) requests-are ∙ length-more s' (slots ws ++ hs) (slots ws ++ gs) one-handed
 
-    pub handed-table : table_in b' r q' ≡ with_held (table_in b r q) (record (held_by b r q) { requests = changed (complete_with (framed_item (Some buffer.number) peer frame size)) (position (is_id id) q.standing) (requests_in b q.standing) })
+    pub handed-table : table_in b' r q' ≡ with_held (table_in b r q) (record (held_by b r q) { requests = changed (complete_with (framed_item (buffer.number ∷ []) peer frame size)) (position (is_id id) q.standing) (requests_in b q.standing) })
     handed-table =
         let b'' = with_queued b s' k in
         let how : Complete = handed_by a s' in

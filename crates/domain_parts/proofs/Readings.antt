@@ -9,9 +9,9 @@ use Rattle.mc_base.specs.Fault.{fault, payload_faults}
 use Rattle.mc_base.specs.FaultRow.{FaultRow, first, first_fault, row, widened}
 use Rattle.mc_base.specs.Frame.{destination_of, payload_length_of, payload_of, source_of}
 use Rattle.mc_base.specs.Letter.{Fields, PlainLetter, accept, connect, msg, packet, recv_close, recv_open, reject, scalar, send_close, send_open, bytes_of_bits}
-use Rattle.mc_base.specs.LetterFaults.{allows, fields_in, form_of, letter_faults, a_width}
+use Rattle.mc_base.specs.LetterFaults.{Form, a_width, allows, fields_in, form_in, form_of, forms, letter_faults, part_forms}
 use Rattle.mc_base.specs.Announcement.{announcement_faults}
-use Rattle.mc_base.specs.Reading.{announced_in, bits_of_bytes, kind_numbered, letter_of, reading, reading_by, reason_numbered, says}
+use Rattle.mc_base.specs.Reading.{Reading, announced_in, bits_of_bytes, brings, kind_numbered, letter_of, piece_of, reading, reading_by, reason_numbered, says}
 use Rattle.mc_base.specs.declared.fault.Fault.{Fault}
 use Rattle.mc_base.specs.declared.fault.Fault.TheVariants as fault_of
 use Rattle.mc_base.specs.declared.fault.FrameFault.TheVariants.{FrameShort, FrameLong, HeaderLen}
@@ -20,6 +20,7 @@ use Rattle.mc_base.specs.declared.fault.NsFault.TheVariants.{NsSize, NsFlags, Ns
 use Rattle.board_model.specs.Dealing.{fault_word, keeps_buffer}
 use Rattle.domain_parts.specs.InBook.{channel_of, priority_of}
 use Rattle.domain_parts.specs.PlacedFrames.{item_of}
+use Rattle.board_model.specs.Parts.{Came}
 use Rattle.board_model.specs.State.{Item}
 use Rattle.board_model.specs.TakenFrames as taken
 use Rattle.bridge_frame.proofs.Bytes.{little_bytes-little_number}
@@ -61,16 +62,16 @@ head_passes {F} r rs = go r.stands refl
 
 -- ---- what a frame without a fault has in its bytes
 
--- the fields of its letter, and what the letter's kind allows
+-- the fields of its letter, of version 1, and what the letter's kind allows
 pub record Lies (frame : List ℕ) : Type 0 where
   pub kind : (fields_in (payload_of frame)).kind ≡ slice_index frame 18
   pub argument : (fields_in (payload_of frame)).argument ≡ slice_index frame 19
   pub channel : (fields_in (payload_of frame)).channel ≡ number_at 20 4 frame
   pub content : (fields_in (payload_of frame)).content ≡ take (length (fields_in (payload_of frame)).content) (drop 24 frame)
   pub inside : 24 + length (fields_in (payload_of frame)).content ≤ length frame
-  pub allowed : allows (form_of (fields_in (payload_of frame)).kind) (λ form. form.content (fields_in (payload_of frame))) ≡ true
-  pub numbered : allows (form_of (fields_in (payload_of frame)).kind) (λ form. form.channel (fields_in (payload_of frame)).channel) ≡ true
-  pub argued : allows (form_of (fields_in (payload_of frame)).kind) (λ form. form.argument (fields_in (payload_of frame)).argument) ≡ true
+  pub allowed : allows (form_in (fields_in (payload_of frame)).kind forms) (λ form. form.content (fields_in (payload_of frame))) ≡ true
+  pub numbered : allows (form_in (fields_in (payload_of frame)).kind forms) (λ form. form.channel (fields_in (payload_of frame)).channel) ≡ true
+  pub argued : allows (form_in (fields_in (payload_of frame)).kind forms) (λ form. form.argument (fields_in (payload_of frame)).argument) ≡ true
 
 not_lt : (a b : ℕ) → nat_lt a b ≡ false → b ≤ a
 not_lt a b e = grind arith
@@ -79,8 +80,12 @@ not_not : (b : Bool) → not b ≡ false → b ≡ true
 not_not true e = refl
 not_not false e = absurd cc
 
-sound-lies : (frame : List ℕ) → fault frame ≡ None → (destination_of frame == 53) ≡ false → Lies frame
-sound-lies frame none to_endpoint =
+-- the form of a kind in version 1
+whole-form : (f : Fields) → (f.version == 2) ≡ false → (P : Option Form → Bool) → P (form_of f) ≡ P (form_in f.kind forms)
+whole-form f whole P = ap (λ (b : Bool). P (form_in f.kind (if b then part_forms else forms))) whole
+
+sound-lies : (frame : List ℕ) → fault frame ≡ None → (destination_of frame == 53) ≡ false → ((fields_in (payload_of frame)).version == 2) ≡ false → Lies frame
+sound-lies frame none to_endpoint whole =
     let payload = payload_of frame in
     let f = fields_in payload in
     let behind_frame = payload_faults (destination_of frame) payload in
@@ -90,14 +95,14 @@ sound-lies frame none to_endpoint =
     let two = head_passes long_row (len_row ∷ behind_frame) one.1 in
     let three = head_passes len_row behind_frame two.1 in
     let rows : first_fault (widened fault_of.Letter (letter_faults payload)) ≡ None = sym (ap (λ b. first_fault (cond b (widened fault_of.Ns (announcement_faults payload)) (widened fault_of.Letter (letter_faults payload)))) to_endpoint) ∙ three.1 in
-    let size_row = row (fault_of.Letter Size) (not (allows (form_of f.kind) (λ form. form.content f))) 12 in
-    let channel_row = row (fault_of.Letter Channel) (not (allows (form_of f.kind) (λ form. form.channel f.channel))) 20 in
-    let argument_row = row (fault_of.Letter Argument) (not (allows (form_of f.kind) (λ form. form.argument f.argument))) 19 in
-    let kind_row = row (fault_of.Letter Kind) (not (is_some (form_of f.kind))) 18 in
-    let version_row = row (fault_of.Letter Version) (not (f.version == 1)) 17 in
+    let size_row = row (fault_of.Letter Size) (not (allows (form_of f) (λ form. form.content f))) 12 in
+    let channel_row = row (fault_of.Letter Channel) (not (allows (form_of f) (λ form. form.channel f.channel))) 20 in
+    let argument_row = row (fault_of.Letter Argument) (not (allows (form_of f) (λ form. form.argument f.argument))) 19 in
+    let kind_row = row (fault_of.Letter Kind) (not (is_some (form_of f))) 18 in
+    let version_row = row (fault_of.Letter Version) (not (f.version == 1 || f.version == 2)) 17 in
     let magic_row = row (fault_of.Letter Magic) (not (slice_index payload 0 == 0x4d)) 16 in
-    let whole = head_passes (row (fault_of.Letter PayloadShort) (nat_lt (length payload) 8) 12) (magic_row ∷ version_row ∷ kind_row ∷ argument_row ∷ channel_row ∷ size_row ∷ []) rows in
-    let magic = head_passes magic_row (version_row ∷ kind_row ∷ argument_row ∷ channel_row ∷ size_row ∷ []) whole.1 in
+    let long_enough = head_passes (row (fault_of.Letter PayloadShort) (nat_lt (length payload) 8) 12) (magic_row ∷ version_row ∷ kind_row ∷ argument_row ∷ channel_row ∷ size_row ∷ []) rows in
+    let magic = head_passes magic_row (version_row ∷ kind_row ∷ argument_row ∷ channel_row ∷ size_row ∷ []) long_enough.1 in
     let version = head_passes version_row (kind_row ∷ argument_row ∷ channel_row ∷ size_row ∷ []) magic.1 in
     let kind = head_passes kind_row (argument_row ∷ channel_row ∷ size_row ∷ []) version.1 in
     let argument = head_passes argument_row (channel_row ∷ size_row ∷ []) kind.1 in
@@ -105,7 +110,7 @@ sound-lies frame none to_endpoint =
     let size = head_passes size_row [] channel.1 in
     let header : 16 ≤ length frame = not_lt (length frame) 16 one.0 in
     let within : payload_length_of frame ≤ length frame - 16 = not_lt (length frame - 16) (payload_length_of frame) three.0 in
-    let letter : 8 ≤ length payload = not_lt (length payload) 8 whole.0 in
+    let letter : 8 ≤ length payload = not_lt (length payload) 8 long_enough.0 in
     let cut = length-take (payload_length_of frame) (drop 16 frame) in
     let left = length-drop 16 frame in
     let behind = length-drop 8 payload in
@@ -122,9 +127,9 @@ sound-lies frame none to_endpoint =
           ∙ ap (little_number 4) (drop-drop 4 16 frame);
       content = ap (λ (k : ℕ). drop 8 (take k (drop 16 frame))) n ∙ drop-take 8 (length (drop 8 payload)) (drop 16 frame) ∙ ap (take (length (drop 8 payload))) (drop-drop 8 16 frame);
       inside = omega (arith, n, header, within);
-      allowed = not_not _ size.0;
-      numbered = not_not _ channel.0;
-      argued = not_not _ argument.0;
+      allowed = sym (whole-form f whole (λ o. allows o (λ form. form.content f))) ∙ not_not _ size.0;
+      numbered = sym (whole-form f whole (λ o. allows o (λ form. form.channel f.channel))) ∙ not_not _ channel.0;
+      argued = sym (whole-form f whole (λ o. allows o (λ form. form.argument f.argument))) ∙ not_not _ argument.0;
     }
 
 -- ---- the fields of a letter, by its kind
@@ -182,14 +187,14 @@ not_le : (a b : ℕ) → nat_le a b ≡ true → a ≤ b
 not_le a b e = grind arith
 
 -- the item lies in the frame as its payload says
-framed-whole : (frame : List ℕ) → Lies frame → (peer size : ℕ) → size ≡ length (fields_in (payload_of frame)).content → framed_item None peer frame size ≡ item_of peer frame
+framed-whole : (frame : List ℕ) → Lies frame → (peer size : ℕ) → size ≡ length (fields_in (payload_of frame)).content → framed_item (0 ∷ []) peer frame size ≡ item_of peer frame
 framed-whole frame lies peer size is =
     let payload = payload_of frame in
-    ap (λ (n : ℕ). framed_item None peer frame n) is
-    ∙ ap (λ (c : List ℕ). item_with None peer (source_of frame) (priority_of frame) (channel_of frame) c) (sym lies.content)
-    ∙ ap (λ (k : ℕ). item_with None peer (source_of frame) (if k == 1 then slice_index frame 19 else 0) (if k == 1 then None else Some (number_at 20 4 frame)) (drop 8 payload)) (sym lies.kind)
-    ∙ ap (λ (a : ℕ). item_with None peer (source_of frame) (if slice_index payload 2 == 1 then a else 0) (if slice_index payload 2 == 1 then None else Some (number_at 20 4 frame)) (drop 8 payload)) (sym lies.argument)
-    ∙ ap (λ (n : ℕ). item_with None peer (source_of frame) (if slice_index payload 2 == 1 then slice_index payload 3 else 0) (if slice_index payload 2 == 1 then None else Some n) (drop 8 payload)) (sym lies.channel)
+    ap (λ (n : ℕ). framed_item (0 ∷ []) peer frame n) is
+    ∙ ap (λ (c : List ℕ). item_with (0 ∷ []) peer (source_of frame) (priority_of frame) (channel_of frame) c) (sym lies.content)
+    ∙ ap (λ (k : ℕ). item_with (0 ∷ []) peer (source_of frame) (if k == 1 then slice_index frame 19 else 0) (if k == 1 then None else Some (number_at 20 4 frame)) (drop 8 payload)) (sym lies.kind)
+    ∙ ap (λ (a : ℕ). item_with (0 ∷ []) peer (source_of frame) (if slice_index payload 2 == 1 then a else 0) (if slice_index payload 2 == 1 then None else Some (number_at 20 4 frame)) (drop 8 payload)) (sym lies.argument)
+    ∙ ap (λ (n : ℕ). item_with (0 ∷ []) peer (source_of frame) (if slice_index payload 2 == 1 then slice_index payload 3 else 0) (if slice_index payload 2 == 1 then None else Some n) (drop 8 payload)) (sym lies.channel)
 
 -- each byte is one
 abbrev pub AreBytes : List ℕ → Type 0
@@ -230,7 +235,7 @@ module _ (frame : List ℕ) (lies : Lies frame) where
       let kind : (slice_index frame 18 == 1) ≡ true = sym (ap (λ (k : ℕ). k == 1) lies.kind) ∙ reads.0 in
       let kind_is : fs.kind ≡ 1 = eqb-true fs.kind 1 reads.0 in
       let long = ap length reads.2 in
-      let short : length fs.content ≤ 488 = not_le _ 488 (sym (ap (λ k. allows (form_of k) (λ form. form.content fs)) kind_is) ∙ lies.allowed) in
+      let short : length fs.content ≤ 488 = not_le _ 488 (sym (ap (λ k. allows (form_in k forms) (λ form. form.content fs)) kind_is) ∙ lies.allowed) in
       record {
         from = refl;
         says = ap (λ (b : Bool). if b then slice_index frame 19 else 0) kind ∙ sym lies.argument ∙ reads.1;
@@ -258,14 +263,14 @@ module _ (frame : List ℕ) (lies : Lies frame) where
   carries-packet : (n : ℕ) (content : List ℕ) → Reads fs (packet n content) → Carries frame (source_of frame) 0 (Some n) content
   carries-packet n content reads =
       let kind_is : fs.kind ≡ 7 = eqb-true fs.kind 7 reads.0 in
-      carries-channel 7 refl kind_is n reads.1 content (sym reads.2) (not_le _ 488 (sym (ap (λ k. allows (form_of k) (λ form. form.content fs)) kind_is) ∙ lies.allowed))
+      carries-channel 7 refl kind_is n reads.1 content (sym reads.2) (not_le _ 488 (sym (ap (λ k. allows (form_in k forms) (λ form. form.content fs)) kind_is) ∙ lies.allowed))
 
   carries-scalar : AreBytes frame → (n : ℕ) (bits : Bits) (v : ℕ) → Reads fs (scalar n bits v) → Carries frame (source_of frame) 0 (Some n) (little_bytes (bytes_of_bits bits) v)
   carries-scalar bytes n bits v reads =
       let kind_is : fs.kind ≡ 8 = eqb-true fs.kind 8 reads.0 in
       let w = fs.argument in
-      let long : length fs.content ≡ w = eqb-true (length fs.content) w (sym (ap (λ k. allows (form_of k) (λ form. form.content fs)) kind_is) ∙ lies.allowed) in
-      let wide : a_width w ≡ true = sym (ap (λ k. allows (form_of k) (λ form. form.argument w)) kind_is) ∙ lies.argued in
+      let long : length fs.content ≡ w = eqb-true (length fs.content) w (sym (ap (λ k. allows (form_in k forms) (λ form. form.content fs)) kind_is) ∙ lies.allowed) in
+      let wide : a_width w ≡ true = sym (ap (λ k. allows (form_in k forms) (λ form. form.argument w)) kind_is) ∙ lies.argued in
       let back : bytes_of_bits bits ≡ w = ap bytes_of_bits (sym reads.2) ∙ width-back w wide in
       let lower : w ≤ 8 = width-most w wide in
       let inside = lies.inside in
@@ -290,7 +295,7 @@ module _ (frame : List ℕ) (lies : Lies frame) where
   short-letter (packet n content) reads = (carries-packet n content reads).fits.short
   short-letter (connect n kind) reads =
       let kind_is : fs.kind ≡ 2 = eqb-true fs.kind 2 reads.0 in
-      let some : not (fs.channel == 0) ≡ true = sym (ap (λ k. allows (form_of k) (λ form. form.channel fs.channel)) kind_is) ∙ lies.numbered in
+      let some : not (fs.channel == 0) ≡ true = sym (ap (λ k. allows (form_in k forms) (λ form. form.channel fs.channel)) kind_is) ∙ lies.numbered in
       positive n (ap (λ (x : ℕ). not (x == 0)) (sym reads.1) ∙ some)
     where
       positive : (x : ℕ) → not (x == 0) ≡ true → 0 < x
@@ -306,12 +311,22 @@ pub record SaysLetter (frame : List ℕ) (source : ℕ) (l : PlainLetter) : Type
   pub reads : Reads (fields_in (payload_of frame)) l
 
 module _ (frame : List ℕ) (source destination : ℕ) (l : PlainLetter) where
-  by_destination : (b : Bool) → (destination_of frame == 53) ≡ b → fault frame ≡ None → says source destination l ≡ cond b (announced_in (payload_of frame)) (says (source_of frame) (destination_of frame) (letter_of (fields_in (payload_of frame)))) → SaysLetter frame source l
-  by_destination true e none is = absurd cc
-  by_destination false e none is =
+  abbrev parsed : Fields
+  parsed = fields_in (payload_of frame)
+
+  abbrev said_by : Bool → Reading
+  said_by in_parts = cond in_parts (brings (source_of frame) (destination_of frame) (piece_of parsed)) (says (source_of frame) (destination_of frame) (letter_of parsed))
+
+  by_version : (b : Bool) → (parsed.version == 2) ≡ b → (destination_of frame == 53) ≡ false → fault frame ≡ None → says source destination l ≡ said_by b → SaysLetter frame source l
+  by_version true v e none is = absurd cc
+  by_version false v e none is =
       let from : source_of frame ≡ source = cc in
-      let letter : letter_of (fields_in (payload_of frame)) ≡ l = cc in
-      record { lies = sound-lies frame none e; from = from; reads = letter-reads (fields_in (payload_of frame)) l letter }
+      let letter : letter_of parsed ≡ l = cc in
+      record { lies = sound-lies frame none e v; from = from; reads = letter-reads parsed l letter }
+
+  by_destination : (b : Bool) → (destination_of frame == 53) ≡ b → fault frame ≡ None → says source destination l ≡ cond b (announced_in (payload_of frame)) (said_by (parsed.version == 2)) → SaysLetter frame source l
+  by_destination true e none is = absurd cc
+  by_destination false e none is = by_version (parsed.version == 2) refl e none is
 
   by_fault : (o : Option Fault) → fault frame ≡ o → says source destination l ≡ reading_by o frame → SaysLetter frame source l
   by_fault (Some f) e is = absurd cc
@@ -325,27 +340,27 @@ module _ (frame : List ℕ) (source destination : ℕ) (l : PlainLetter) where
   short-read is = let r = letter-read is in short-letter frame r.lies l r.reads
 
 -- it is the item in the frame
-pub record CarriesItem (name : Option ℕ) (frame : List ℕ) (peer : ℕ) (item : Item) : Type 0 where
-  pub is : item ≡ framed_item name peer frame (length item.content)
+pub record CarriesItem (names : List ℕ) (frame : List ℕ) (peer : ℕ) (item : Item) : Type 0 where
+  pub is : item ≡ framed_item names peer frame (length item.content)
   pub fits : Fits frame (length item.content)
   pub says : priority_of frame ≡ item.priority
 
-carried : (name : Option ℕ) (peer : ℕ) (frame : List ℕ) (source source' priority : ℕ) (channel : Option ℕ) (content : List ℕ) → source' ≡ source → Carries frame source' priority channel content → CarriesItem name frame peer (item_with name peer source priority channel content)
-carried name peer frame source source' priority channel content from c = record {
+carried : (names : List ℕ) (peer : ℕ) (frame : List ℕ) (source source' priority : ℕ) (channel : Option ℕ) (content : List ℕ) → source' ≡ source → Carries frame source' priority channel content → CarriesItem names frame peer (item_with names peer source priority channel content)
+carried names peer frame source source' priority channel content from c = record {
   is =
-      ap (λ s. item_with name peer s priority channel content) (sym (c.from ∙ from))
-      ∙ ap (λ k. item_with name peer (source_of frame) k channel content) (sym c.says)
-      ∙ ap (λ k. item_with name peer (source_of frame) (priority_of frame) k content) (sym c.on)
-      ∙ ap (item_with name peer (source_of frame) (priority_of frame) (channel_of frame)) (sym c.content_is);
+      ap (λ s. item_with names peer s priority channel content) (sym (c.from ∙ from))
+      ∙ ap (λ k. item_with names peer (source_of frame) k channel content) (sym c.says)
+      ∙ ap (λ k. item_with names peer (source_of frame) (priority_of frame) k content) (sym c.on)
+      ∙ ap (item_with names peer (source_of frame) (priority_of frame) (channel_of frame)) (sym c.content_is);
   fits = c.fits;
   says = c.says;
 }
 
-pub item-read : (name : Option ℕ) (peer : ℕ) (frame : List ℕ) → AreBytes frame → (source destination : ℕ) (l : PlainLetter) → says source destination l ≡ reading frame → IsItem l → CarriesItem name frame peer (taken.item_of peer name source l)
-item-read name peer frame bytes source destination l is item = go l (letter-read frame source destination l is) item
+pub item-read : (came : Came) (peer : ℕ) (frame : List ℕ) → AreBytes frame → (source destination : ℕ) (l : PlainLetter) → says source destination l ≡ reading frame → IsItem l → CarriesItem came.names frame peer (taken.item_of peer came source l)
+item-read came peer frame bytes source destination l is item = go l (letter-read frame source destination l is) item
   where
-    go : (l : PlainLetter) → SaysLetter frame source l → IsItem l → CarriesItem name frame peer (taken.item_of peer name source l)
-    go (msg priority content) r item = carried name peer frame source (source_of frame) priority None content r.from (carries-message frame r.lies priority content r.reads)
-    go (packet n content) r item = carried name peer frame source (source_of frame) 0 (Some n) content r.from (carries-packet frame r.lies n content r.reads)
-    go (scalar n bits v) r item = carried name peer frame source (source_of frame) 0 (Some n) (little_bytes (bytes_of_bits bits) v) r.from (carries-scalar frame r.lies bytes n bits v r.reads)
+    go : (l : PlainLetter) → SaysLetter frame source l → IsItem l → CarriesItem came.names frame peer (taken.item_of peer came source l)
+    go (msg priority content) r item = carried came.names peer frame source (source_of frame) priority None content r.from (carries-message frame r.lies priority content r.reads)
+    go (packet n content) r item = carried came.names peer frame source (source_of frame) 0 (Some n) content r.from (carries-packet frame r.lies n content r.reads)
+    go (scalar n bits v) r item = carried came.names peer frame source (source_of frame) 0 (Some n) (little_bytes (bytes_of_bits bits) v) r.from (carries-scalar frame r.lies bytes n bits v r.reads)
     go other r item = absurd item

@@ -31,7 +31,7 @@ keeps-both a b c first then s is = then s (still-held a b s first is) ∙ first 
 
 -- what was stored stays
 pub item-same : (b b' : Book) (s : Slot) → kept_at b' s ≡ kept_at b s → item_at b' s ≡ item_at b s
-item-same b b' s same = ap (λ (o : Option Kept). record { peer = s.peer; source = source_in o; priority = priority_in o; channel = channel_in o; content = content_in o; frames = [] }) same
+item-same b b' s same = ap (λ (o : Option Kept). record { peer = s.peer; source = source_in o; priority = priority_in o; channel = channel_in o; content = content_in o; frames = 0 ∷ [] }) same
 
 pub stays-stored : (peer n : ℕ) (frame : List ℕ) (b b' : Book) → KeepsHeld b b' → IsStored peer n frame b → IsStored peer n frame b'
 stays-stored peer n frame b b' keeps stored = record {

@@ -1,9 +1,8 @@
 -- A frame that is taken, by the verdict on it.
-use Rattle.std.proofs.Common.{◌≡◌, ℕ, zero, suc, ◌<◌, Bool, true, List, [], ◌∷◌, ◌++◌, length, map, take, Some, refl, sym, ap, ◌∙◌, subst, arith}
+use Rattle.std.proofs.Common.{◌≡◌, ℕ, zero, suc, ◌<◌, Bool, true, List, [], ◌∷◌, ◌++◌, length, map, take, Some, None, refl, sym, ap, ◌∙◌, subst, arith}
 use Rattle.std.specs.Prelude.{Contains, if◌then◌else◌, slice_get, slice_set}
 use Rattle.std.proofs.lemmas.List.{length-append, length-map}
 use Rattle.mc_base.specs.NameMap.{Names}
-use Rattle.mc_base.specs.Reading.{reading}
 use Rattle.mc_base.specs.Stored.{Stored}
 use Rattle.mc_base.specs.declared.fate.Fate.{Fate}
 use Rattle.mc_base.specs.declared.fate.Fate.TheVariants.{Queued, Handed}
@@ -12,10 +11,12 @@ use Rattle.lane_end.specs.Numbers.{AreApart}
 use Rattle.lane_end.specs.ReceiveMoves.{Gave, Took}
 use Rattle.board_model.specs.Change.{Change, changed_all, frame_taken, item_handed, item_queued}
 use Rattle.board_model.specs.Dealing.{keeps_buffer}
-use Rattle.board_model.specs.Deeds.{takes}
+use Rattle.board_model.specs.Deeds.{taken_change, takes}
 use Rattle.board_model.specs.Journal.{Line, take_line, taken}
+use Rattle.board_model.specs.Parts.{came_from, part_in}
 use Rattle.board_model.specs.State.{DomainState}
-use Rattle.board_model.specs.TakenFrames.{Row, names_of, replies_to, row, row_of}
+use Rattle.board_model.specs.TakenFrames.{Row, names_of, replies_to, row, row_from}
+use Rattle.board_model.proofs.WholeFrames.{taken-alone}
 use Rattle.buffer_book.specs.Book.{Book, IsAway, queued_in, with_queued}
 use Rattle.endpoint_table.specs.Table as endpoint_table
 use Rattle.message_queue.specs.Queue.{waiting}
@@ -89,7 +90,10 @@ module _ {L : Type 0} (M : L → List LaneMove → L → Type 0) (m-none : (l : 
   pub shows : Shows (state_of old) n b (desk r q x.known x.replies)
   shows =
       let found = find-place plain t i (peers_seen v ps) (peer_seen v x) sound.peers.rising at in
-      record { endpoints = refl; requests = refl; known = ap names_of found; owed = ap replies_to found ∙ length-map x.replies reply_in }
+      record { endpoints = refl; requests = refl; known = ap names_of found; owed = ap replies_to found ∙ length-map x.replies reply_in; closed = ap part_in found }
+
+  taken_so : taken_change n (came_from (state_of old) n (Some buffer.number) frame) ≡ frame_taken n None []
+  taken_so = taken-alone (state_of old) n (Some buffer.number) frame shows.closed
 
   module _ (e : L) (seen : v e ≡ after_move (receiver (Took buffer.number frame)) (v x.ends)) (moved : M x.ends (receiver (Took buffer.number frame) ∷ []) e) (apart : AreApart (v e).size_from (v e).out) where
     pub apart-then : AreApart (v x.ends).size_from ((v x.ends).out ++ buffer.number ∷ [])
@@ -118,13 +122,13 @@ module _ {L : Type 0} (M : L → List LaneMove → L → Type 0) (m-none : (l : 
 
     -- it is kept: its word, its changes, and the step that it is
     kept-doing : (c : Step) (fate : Fate) (happens : List Change) (b' : Book) (r' : Records) (q' : Requests) (names : Names) (rs : List Reply) (applies : Bool) → (step_moves c ≡ at_peer n (receiver (Took buffer.number frame) ∷ []))
-        → parts_in v b' r' q' t (took_ps names rs) ≡ done c old → row_of (state_of old) n (Some buffer.number) (reading frame) ≡ row applies fate happens → state_of (done c old) ≡ changed_all (state_of old) (frame_taken n ∷ happens) → KeepsHeld b b' → ids_in (parts_in v b' r' q' t (took_ps names rs)) ≡ ids_in old → r'.lent ≡ r.lent
+        → parts_in v b' r' q' t (took_ps names rs) ≡ done c old → row_from (state_of old) n (Some buffer.number) frame ≡ row applies fate happens → state_of (done c old) ≡ changed_all (state_of old) (frame_taken n None [] ∷ happens) → KeepsHeld b b' → ids_in (parts_in v b' r' q' t (took_ps names rs)) ≡ ids_in old → r'.lent ≡ r.lent
         → keeps_buffer fate ≡ true → Doing M (peer_at old i).number (takes (peer_at old i).number (Some buffer.number) frame fate ∷ []) (taking (buffer.number ∷ []) (taken frame fate ∷ [])) (holding_in v b r q t ps) (holding_in v b' r' q' t (took_ps names rs))
     kept-doing c fate happens b' r' q' names rs applies moves after is means stays ids packets kept =
         subst (λ (ms : List LaneMove). Doing M (peer_at old i).number (takes (peer_at old i).number (Some buffer.number) frame fate ∷ []) ms (holding_in v b r q t ps) (holding_in v b' r' q' t (took_ps names rs)))
         (ap (λ (k : Bool). receiver (Took buffer.number frame) ∷ ((if k then [] else receiver (Gave buffer.number) ∷ []) ++ [])) (sym kept))
         (doing-by M m-none v b r q t ps sound i x there e (receiver (Took buffer.number frame) ∷ []) seen moved (c ∷ []) (λ k. takes k (Some buffer.number) frame fate ∷ []) (holding_in v b' r' q' t (took_ps names rs))
-        (λ k. ap (λ (f : ℕ → List LaneMove). f k) moves) after (ends-known ps i x e names rs) (ap (λ (z : Row). z.word) is, tt) (means ∙ ap (λ (z : Row). changed_all (state_of old) (frame_taken n ∷ z.happens)) (sym is)) stays ids packets)
+        (λ k. ap (λ (f : ℕ → List LaneMove). f k) moves) after (ends-known ps i x e names rs) (ap (λ (z : Row). z.word) is, tt) (means ∙ ap (λ (z : Row). changed_all (state_of old) (frame_taken n None [] ∷ z.happens)) (sym is) ∙ ap (λ (x : Change). changed_all (state_of old) (x ∷ (row_from (state_of old) n (Some buffer.number) frame).happens)) (sym taken_so)) stays ids packets)
 
     takes-one : (fate : Fate) (new : Holding L) → Doing M (peer_at old i).number (takes (peer_at old i).number (Some buffer.number) frame fate ∷ []) (taking (buffer.number ∷ []) (taken frame fate ∷ [])) (holding_in v b r q t ps) new → AreStored n (buffer.number ∷ []) (taken frame fate ∷ []) new.parts.book
         → lines' ≡ lines ++ take_line n frame fate ∷ [] → Takes M i 1 (holding_in v b r q t ps) new lines lines'
@@ -145,7 +149,7 @@ module _ {L : Type 0} (M : L → List LaneMove → L → Type 0) (m-none : (l : 
       kept-stored fate = enqueued-stored r q b b' _ n (slot_at n buffer.number) buffer size len (but-one old sound i y at buffer.number apart-then) refl book fits.short fits.inside fate (fits.whole n)
 
       -- its message is queued
-      module _ (j priority : ℕ) (is : IsQueued (state_of old) (row_of (state_of old) n (Some buffer.number) (reading frame)) (framed_item (Some buffer.number) n frame size) j) (says : priority_of frame ≡ priority) (r' : Records) (q' : Requests) (records : r' ≡ with_waiting_at r j (waiting (slot_at n buffer.number) priority)) (requests : q' ≡ q) where
+      module _ (j priority : ℕ) (is : IsQueued (state_of old) (row_from (state_of old) n (Some buffer.number) frame) (framed_item (buffer.number ∷ []) n frame size) j) (says : priority_of frame ≡ priority) (r' : Records) (q' : Requests) (records : r' ≡ with_waiting_at r j (waiting (slot_at n buffer.number) priority)) (requests : q' ≡ q) where
         queued-after : parts_in v b' r' q' t (took_ps names rs) ≡ done (frame_queued n buffer len size j priority) old
         queued-after = let peers = took_peers names rs same same_rs in cc
 
@@ -155,12 +159,12 @@ module _ {L : Type 0} (M : L → List LaneMove → L → Type 0) (m-none : (l : 
         pub queued-takes : lines' ≡ lines ++ take_line n frame Queued ∷ [] → Takes M i 1 (holding_in v b r q t ps) (holding_in v b' r' q' t (took_ps names rs)) lines lines'
         queued-takes told =
             takes-one Queued (holding_in v b' r' q' t (took_ps names rs))
-            (kept-doing (frame_queued n buffer len size j priority) Queued (item_queued is.destination (framed_item (Some buffer.number) n frame size) ∷ []) b' r' q' names rs is.applies refl queued-after is.row_is
+            (kept-doing (frame_queued n buffer len size j priority) Queued (item_queued is.destination (framed_item (buffer.number ∷ []) n frame size) ∷ []) b' r' q' names rs is.applies refl queued-after is.row_is
             (frame_queued-is old sound i y at buffer len size apart-then fits.short fits.inside j priority is.destination says is.at) (kept-stored Queued).stays (ap (λ (z : Requests). map (λ c. c.id) z.standing) requests) (ap (λ (z : Records). z.lent) records) refl)
             (kept-stored Queued).stored told
 
       -- it is handed to a request
-      module _ (id : RequestId) (a : Ask) (is : IsHanded (state_of old) q (row_of (state_of old) n (Some buffer.number) (reading frame)) (framed_item (Some buffer.number) n frame size) id a) (r' : Records) (q' : Requests) (records : r' ≡ r) (requests : q' ≡ with_complete q id (handed_by a (slot_at n buffer.number))) where
+      module _ (id : RequestId) (a : Ask) (is : IsHanded (state_of old) q (row_from (state_of old) n (Some buffer.number) frame) (framed_item (buffer.number ∷ []) n frame size) id a) (r' : Records) (q' : Requests) (records : r' ≡ r) (requests : q' ≡ with_complete q id (handed_by a (slot_at n buffer.number))) where
         handed-after : parts_in v b' r' q' t (took_ps names rs) ≡ done (frame_handed n buffer len size id a) old
         handed-after = let peers = took_peers names rs same same_rs in cc
 
@@ -170,7 +174,7 @@ module _ {L : Type 0} (M : L → List LaneMove → L → Type 0) (m-none : (l : 
         pub handed-takes : lines' ≡ lines ++ take_line n frame Handed ∷ [] → Takes M i 1 (holding_in v b r q t ps) (holding_in v b' r' q' t (took_ps names rs)) lines lines'
         handed-takes told =
             takes-one Handed (holding_in v b' r' q' t (took_ps names rs))
-            (kept-doing (frame_handed n buffer len size id a) Handed (item_handed is.destination (framed_item (Some buffer.number) n frame size) ∷ []) b' r' q' names rs is.applies refl handed-after is.row_is
+            (kept-doing (frame_handed n buffer len size id a) Handed (item_handed is.destination (framed_item (buffer.number ∷ []) n frame size) ∷ []) b' r' q' names rs is.applies refl handed-after is.row_is
             (frame_handed-is old sound i y at buffer len size apart-then fits.short fits.inside id a is.destination is.endpoint is.pending is.named is.waits) (kept-stored Handed).stays
             (handed-ids r q b b' _ n (slot_at n buffer.number) buffer size len (but-one old sound i y at buffer.number apart-then) refl book fits.short fits.inside q' id a sound.receives is.pending requests) (ap (λ (z : Records). z.lent) records) refl)
             (kept-stored Handed).stored told
@@ -180,7 +184,7 @@ module _ {L : Type 0} (M : L → List LaneMove → L → Type 0) (m-none : (l : 
     given-out = subst (λ (l : LaneSeen). Contains l.out buffer.number) (sym seen) (is-out n r q b _ buffer.number (but-one old sound i y at buffer.number apart-then))
 
     module _ (m-both : (a b c : L) (xs ys : List LaneMove) → M a xs b → M b ys c → M a (xs ++ ys) c) (e' : L) (seen' : v e' ≡ after_move (receiver (Gave buffer.number)) (v e)) (moved' : M e (receiver (Gave buffer.number) ∷ []) e') (fate : Fate) (d' : Desk)
-        (is : IsReturned (state_of old) n (row_of (state_of old) n (Some buffer.number) (reading frame)) fate (desk r q x.known x.replies) d') where
+        (is : IsReturned (state_of old) n (row_from (state_of old) n (Some buffer.number) frame) fate (desk r q x.known x.replies) d') where
       abbrev both : List LaneMove
       both = receiver (Took buffer.number frame) ∷ receiver (Gave buffer.number) ∷ []
 
@@ -229,11 +233,12 @@ module _ {L : Type 0} (M : L → List LaneMove → L → Type 0) (m-none : (l : 
       pub back-keeps : Sound (parts_in v b d'.records d'.requests t back_ps)
       back-keeps = subst Sound (sym back-after) (effect-keeps returned n sound' does)
 
-      back-state : state_of (done_all (frame_returned n buffer.number frame ∷ effect_steps n does) old) ≡ changed_all (state_of old) (frame_taken n ∷ (row_of (state_of old) n (Some buffer.number) (reading frame)).happens)
+      back-state : state_of (done_all (frame_returned n buffer.number frame ∷ effect_steps n does) old) ≡ changed_all (state_of old) (taken_change n (came_from (state_of old) n (Some buffer.number) frame) ∷ (row_from (state_of old) n (Some buffer.number) frame).happens)
       back-state =
           effect-is returned n sound' i y' there' refl does (placed-same (state_of old) (state_of returned) refl does is.placed)
           ∙ ap (λ (s : DomainState). changed_all s (effect_changes n does)) (frame_returned-is old sound i y at buffer.number frame)
-          ∙ ap (λ (z : Row). changed_all (state_of old) (frame_taken n ∷ z.happens)) (sym is.row_is)
+          ∙ ap (λ (z : Row). changed_all (state_of old) (frame_taken n None [] ∷ z.happens)) (sym is.row_is)
+          ∙ ap (λ (x : Change). changed_all (state_of old) (x ∷ (row_from (state_of old) n (Some buffer.number) frame).happens)) (sym taken_so)
 
       pub back-takes : lines' ≡ lines ++ take_line n frame fate ∷ [] → Takes M i 1 (holding_in v b r q t ps) (holding_in v b d'.records d'.requests t back_ps) lines lines'
       back-takes told =

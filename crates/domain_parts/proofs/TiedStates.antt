@@ -80,7 +80,7 @@ each-there (n ∷ ns) = (
 
 module _ {L : Type 0} (v : L → LaneSeen) (t t' : Table) (a : Announced) (number : ℕ) (ns : List ℕ) (owing : t'.owing ≡ map (also_owing a) t.owing) (linked : map (λ (o : Owing). o.peer) t.owing ≡ linked_among number ns) where
   abbrev with_owed : Peer L → Option Owing → state.Peer
-  with_owed p o = record { number = p.number; size = (v p.ends).size_from; free = (v p.ends).free; shown = (v p.ends).shown; announcements = map announcement_in (owed_by o); replies = map reply_in p.replies; known = p.known }
+  with_owed p o = record { number = p.number; size = (v p.ends).size_from; free = (v p.ends).free; shown = (v p.ends).shown; announcements = map announcement_in (owed_by o); replies = map reply_in p.replies; known = p.known; part = None }
 
   one-more : (p : Peer L) (o : Option Owing) (b : Bool) → is_some o ≡ not b → with_owed p (option_map (also_owing a) o) ≡ cond b (with_owed p o) (record (with_owed p o) { announcements = map announcement_in (owed_by o) ++ announcement_in a ∷ [] })
   one-more p None true is = refl

@@ -1,7 +1,7 @@
 -- What the steps of a turn mean for the state: each is the changes of a deed.
 use Rattle.domain_parts.proofs.Filters.{filter-every}
 use Rattle.buffer_book.specs.Book.{Book}
-use Rattle.std.proofs.Common.{◌≡◌, ℕ, zero, suc, ◌+◌, ◌-◌, ◌<◌, ◌≤◌, true, false, cond, List, [], ◌∷◌, ◌++◌, length, map, drop, take, Option, Some, refl, sym, ap, ◌∙◌, arith}
+use Rattle.std.proofs.Common.{◌≡◌, ℕ, zero, suc, ◌+◌, ◌-◌, ◌<◌, ◌≤◌, true, false, cond, List, [], ◌∷◌, ◌++◌, length, map, drop, take, Option, Some, None, refl, sym, ap, ◌∙◌, arith}
 use Rattle.std.specs.Prelude.{filter, find, option_map, position, slice_get, slice_set, ◌==◌}
 use Rattle.std.specs.List.{list_any}
 use Rattle.std.proofs.lemmas.List.{drop-map, length-map, map_push}
@@ -76,8 +76,8 @@ module _ (p : Parts) (sound : Sound p) (i : ℕ) (x : Peer LaneSeen) (there : sl
   pub looked_ahead-is : (count : ℕ) → state_of (done (looked_ahead x.number count) p) ≡ changed (state_of p) (frames_shown x.number count)
   looked_ahead-is count = ap with_all (one_changed (receiver (receiving.Looked count) ∷ []) (λ y. record y { shown = count }) refl)
 
-  pub frame_returned-is : (n : ℕ) (frame : List ℕ) → state_of (done (frame_returned x.number n frame) p) ≡ changed (state_of p) (frame_taken x.number)
-  frame_returned-is n frame = ap with_all (one_changed (receiver (Took n frame) ∷ receiver (Gave n) ∷ []) (λ y. record y { shown = y.shown - 1 }) refl)
+  pub frame_returned-is : (n : ℕ) (frame : List ℕ) → state_of (done (frame_returned x.number n frame) p) ≡ changed (state_of p) (frame_taken x.number None [])
+  frame_returned-is n frame = ap with_all (one_changed (receiver (Took n frame) ∷ receiver (Gave n) ∷ []) (λ y. record y { shown = y.shown - 1; part = None }) refl)
 
   -- ---- the oldest announcement that is owed is put
 
@@ -238,13 +238,13 @@ module _ (p : Parts) (sound : Sound p) (i : ℕ) (x : Peer LaneSeen) (there : sl
   frame = take len buffer.bytes
 
   abbrev said : state.Item
-  said = framed_item (Some buffer.number) x.number frame size
+  said = framed_item (buffer.number ∷ []) x.number frame size
 
-  pub shown_less : peers_in plain p.table (map (moved_peer (at_peer x.number (receiver (Took buffer.number frame) ∷ []))) p.peers) ≡ changed_first (is_numbered x.number) (λ y. record y { shown = y.shown - 1 }) (peers_in plain p.table p.peers)
-  shown_less = one_changed p sound i x there (receiver (Took buffer.number frame) ∷ []) (λ y. record y { shown = y.shown - 1 }) refl
+  pub shown_less : peers_in plain p.table (map (moved_peer (at_peer x.number (receiver (Took buffer.number frame) ∷ []))) p.peers) ≡ changed_first (is_numbered x.number) (λ y. record y { shown = y.shown - 1; part = None }) (peers_in plain p.table p.peers)
+  shown_less = one_changed p sound i x there (receiver (Took buffer.number frame) ∷ []) (λ y. record y { shown = y.shown - 1; part = None }) refl
 
   pub frame_queued-is : (j priority destination : ℕ) → priority_of frame ≡ priority → position (has_address_of destination) (endpoints_in p.book p.records.endpoints) ≡ Some j
-      → state_of (done (frame_queued x.number buffer len size j priority) p) ≡ changed_all (state_of p) (frame_taken x.number ∷ item_queued destination said ∷ [])
+      → state_of (done (frame_queued x.number buffer len size j priority) p) ≡ changed_all (state_of p) (frame_taken x.number None [] ∷ item_queued destination said ∷ [])
   frame_queued-is j priority destination says at =
       let now = done (frame_queued x.number buffer len size j priority) p in
       let is = queued-table p.records p.requests p.book now.book _ x.number (slot_at x.number buffer.number) buffer size len (but-one p sound i x there buffer.number apart) refl refl small fits now.records j priority says refl in
@@ -257,7 +257,7 @@ module _ (p : Parts) (sound : Sound p) (i : ℕ) (x : Peer LaneSeen) (there : sl
       ∙ ap (λ (xs : List state.Peer). record (state_of p) { endpoints = change.at_address destination (change.with_queue (λ q. q ++ said ∷ [])) (endpoints_in p.book p.records.endpoints); peers = xs }) shown_less
 
   pub frame_handed-is : (id : RequestId) (a : Ask) (destination : ℕ) (e : state.Endpoint) → IsPending p.requests id → endpoint_of (state_of p) destination ≡ Some e → position (state.waits_at e.local) (state_of p).requests ≡ position (is_id id) p.requests.standing
-      → state_of (done (frame_handed x.number buffer len size id a) p) ≡ changed_all (state_of p) (frame_taken x.number ∷ item_handed destination said ∷ [])
+      → state_of (done (frame_handed x.number buffer len size id a) p) ≡ changed_all (state_of p) (frame_taken x.number None [] ∷ item_handed destination said ∷ [])
   frame_handed-is id a destination e pending named waits =
       let now = done (frame_handed x.number buffer len size id a) p in
       let is = handed-table p.records p.requests p.book now.book _ x.number (slot_at x.number buffer.number) buffer size len (but-one p sound i x there buffer.number apart) refl refl small fits now.requests id a sound.receives pending refl in

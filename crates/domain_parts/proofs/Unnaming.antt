@@ -8,9 +8,8 @@ use Rattle.board_model.specs.CallChanges.{call_changes, effect}
 use Rattle.board_model.specs.Change.{changed_all}
 use Rattle.board_model.specs.Deeds.{calls, after_deeds, AllMayDo}
 use Rattle.board_model.specs.DomainCall.{DomainCall, cancel_of, test_of, wait_for}
-use Rattle.board_model.specs.Given.{frames_from}
 use Rattle.board_model.specs.Journal.{Visit}
-use Rattle.board_model.specs.State.{Item, DomainState, LentPacket, is_from, packet_at_place}
+use Rattle.board_model.specs.State.{DomainState, Item, LentPacket, frames_from, is_from, packet_at_place}
 use Rattle.board_model.specs.Turn.{nameless, visit_deeds}
 use Rattle.board_model.specs.Unnamed.{no_names, unnamed, unnamed_item, unnamed_packet}
 use Rattle.board_model.proofs.ListsMapped.{option-map-map}

@@ -17,10 +17,9 @@ use Rattle.board_model.specs.DomainCall.{DomainCall, release_of, test_of, wait_f
 use Rattle.board_model.specs.Journal.{Line, Visit, turned, noted_all, PlainResult, found_at, was_accepted, was_rejected, brought, ended_by, PlainAnswer, refuses, agrees, tells, gives, completes, connects}
 use Rattle.board_model.specs.Labels.{packet_given}
 use Rattle.board_model.specs.Lists.{without}
-use Rattle.board_model.specs.State.{DomainState, LentPacket}
+use Rattle.board_model.specs.State.{DomainState, LentPacket, frames_from}
 use Rattle.board_model.specs.Answer.{answer, first_complete, puts, refusal, unless_refused}
 use Rattle.board_model.specs.CallChanges as changes
-use Rattle.board_model.specs.Given.{frames_from}
 use Rattle.board_model.specs.Serial.{put_entry}
 use Rattle.domain_parts.specs.DomainView.{DomainView}
 use Rattle.domain_parts.specs.LaneMoves.{LaneMove}

@@ -7,7 +7,7 @@ use Rattle.buffer_book.specs.Book.{Book}
 use Rattle.board_model.specs.State.{DomainState, LentPacket, packet_at_place}
 use Rattle.board_model.specs.Unnamed.{unnamed}
 
--- the state, which names no frames; the same state with each item named by the number of its buffer; the ends towards each peer, in the
+-- the state, in which no frame has a name of its own; the same state with each frame named by the number of its buffer; the ends towards each peer, in the
 -- order of the state's peers; the ids of the requests that stand and of the packets that are lent, in their orders in the state; and the
 -- book of the buffers that are held
 pub record DomainView (L : Type 0) : Type 0 where

@@ -1,6 +1,6 @@
 -- The state of a domain, as its parts are seen.
 -- Source: docs/PROFILE.md, "A domain". What the state tells of a lane is what the ends towards the peer tell of it.
-use Rattle.std.specs.Prelude.{ℕ, not, List, map, filter}
+use Rattle.std.specs.Prelude.{ℕ, not, List, [], map, filter, None}
 use Rattle.board_model.specs.State as state
 use Rattle.board_model.specs.State.{DomainState, Announcement}
 use Rattle.buffer_book.specs.Book.{Book}
@@ -23,9 +23,9 @@ announcement_in a = record { local = a.local; address = a.address; create = a.cr
 abbrev pub reply_in : Reply → state.Reply
 reply_in r = record { source = r.source; destination = r.destination; channel = r.channel; reason = r.reason }
 
--- a peer
+-- a peer; no part is open there
 abbrev pub peer_in : {L : Type 0} → (L → LaneSeen) → endpoint_table.Table → Peer L → state.Peer
-peer_in v t p = record { number = p.number; size = (v p.ends).size_from; free = (v p.ends).free; shown = (v p.ends).shown; announcements = map announcement_in (owed_by (owing_to t p.number)); replies = map reply_in p.replies; known = p.known }
+peer_in v t p = record { number = p.number; size = (v p.ends).size_from; free = (v p.ends).free; shown = (v p.ends).shown; announcements = map announcement_in (owed_by (owing_to t p.number)); replies = map reply_in p.replies; known = p.known; part = None }
 
 abbrev pub peers_in : {L : Type 0} → (L → LaneSeen) → endpoint_table.Table → List (Peer L) → List state.Peer
 peers_in v t ps = map (peer_in v t) ps
@@ -36,4 +36,4 @@ ended_in records = map (λ r. r.address) (filter (λ r. not r.live) records)
 
 -- what waits, was handed or is lent is read in the book of buffers
 abbrev pub state_in : {L : Type 0} → (L → LaneSeen) → Book → Records → Requests → endpoint_table.Table → List (Peer L) → DomainState
-state_in v b r q t ps = record { number = t.domain; nodes = t.nodes; endpoints = endpoints_in b r.endpoints; ended = ended_in t.records; peers = peers_in v t ps; requests = requests_in b q.standing; lent = packets_in b r.lent; endpoints_given = t.given; channels_given = r.channels; requests_given = q.given; packets_lent = b.lends }
+state_in v b r q t ps = record { number = t.domain; nodes = t.nodes; endpoints = endpoints_in b r.endpoints; ended = ended_in t.records; peers = peers_in v t ps; requests = requests_in b q.standing; lent = packets_in b r.lent; held = []; endpoints_given = t.given; channels_given = r.channels; requests_given = q.given; packets_lent = b.lends }

@@ -9,7 +9,7 @@ use Rattle.board_model.specs.Change.{asks_for}
 use Rattle.board_model.specs.State.{Item, Endpoint, Request, has_address, has_item, DomainState}
 
 -- The item that it brings: kind 1 is a message, whose argument is its priority; another is of the channel that the letter's header
--- names, and has no priority. The content follows that header
+-- names, and has no priority. The content follows that header, and the frame is named 0
 abbrev pub is_message : List ℕ → Bool
 is_message frame = slice_index (payload_of frame) 2 == 1
 
@@ -23,7 +23,7 @@ abbrev pub content_in : List ℕ → List ℕ
 content_in frame = drop letter_header_size (payload_of frame)
 
 abbrev pub item_of : ℕ → List ℕ → Item
-item_of peer frame = record { peer = peer; source = source_of frame; priority = priority_in frame; channel = channel_in frame; content = content_in frame; frames = [] }
+item_of peer frame = record { peer = peer; source = source_of frame; priority = priority_in frame; channel = channel_in frame; content = content_in frame; frames = 0 ∷ [] }
 
 -- last in the queue
 abbrev pub queued_last : Item → Endpoint → Endpoint

@@ -21,7 +21,7 @@ pub record Table : Type 0 where
 
 -- a domain of which only the endpoints matter
 abbrev pub holding : List Endpoint → DomainState
-holding es = record { number = 0; nodes = 0; endpoints = es; ended = []; peers = []; requests = []; lent = []; endpoints_given = 0; channels_given = 0; requests_given = 0; packets_lent = 0 }
+holding es = record { number = 0; nodes = 0; endpoints = es; ended = []; peers = []; requests = []; lent = []; held = []; endpoints_given = 0; channels_given = 0; requests_given = 0; packets_lent = 0 }
 
 -- the items in the queues
 abbrev pub items_in : List Endpoint → List Item

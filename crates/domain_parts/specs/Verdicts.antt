@@ -1,11 +1,10 @@
 -- What is to be done with a frame that is taken, by the row that it has.
 -- Source: docs/PROFILE.md, "What a domain does with a taken frame".
-use Rattle.std.specs.Prelude.{◌≡◌, ℕ, ◌+◌, ◌≤◌, ◌<◌, Bool, true, false, List, [], ◌∷◌, ◌++◌, length, take, drop, position, slice_get, Option, Some, None, option_map, option_to_list}
+use Rattle.std.specs.Prelude.{◌≡◌, ℕ, ◌+◌, ◌≤◌, ◌<◌, Bool, true, false, List, [], ◌∷◌, ◌++◌, length, take, drop, position, slice_get, Option, Some, None, option_map}
 use Rattle.mc_base.specs.Limits.{item_size}
 use Rattle.mc_base.specs.Frame.{source_of}
 use Rattle.mc_base.specs.Letter.{PlainLetter, msg, packet, scalar, connect}
 use Rattle.mc_base.specs.NameMap.{Names}
-use Rattle.mc_base.specs.Reading.{reading}
 use Rattle.mc_base.specs.declared.channel.Kind.{Kind}
 use Rattle.mc_base.specs.declared.channel.Reason.{Reason}
 use Rattle.mc_base.specs.declared.fate.Fate.{Fate}
@@ -16,9 +15,10 @@ use Rattle.mc_base.specs.declared.refusal.Refusal.TheVariants.{ChanClosed}
 use Rattle.mc_base.specs.declared.request.RequestId.{RequestId}
 use Rattle.board_model.specs.Change.{Change, channel_set, connect_settled, item_handed, item_queued, name_found, names_known, reply_owed, waiting_ended, item_lost}
 use Rattle.board_model.specs.Dealing.{keeps_buffer}
+use Rattle.board_model.specs.Parts.{Came, named_so, part_of}
 use Rattle.board_model.specs.State.{DomainState, Endpoint, Item, Outcome, endpoint_of, has_address_of, is_accepted, is_rejected, peer_at, waits_at}
 use Rattle.board_model.specs.TakenFrames as taken
-use Rattle.board_model.specs.TakenFrames.{Row, connect_rows, first_row, letter_rows, names_of, replies_to, row, row_of}
+use Rattle.board_model.specs.TakenFrames.{Row, connect_rows, first_row, letter_rows, names_of, replies_to, row, row_from}
 use Rattle.buffer_book.specs.Book.{Book}
 use Rattle.packet_channel.specs.End.{end_of}
 use Rattle.packet_channel.specs.declared.channel.Channel.{Channel}
@@ -51,12 +51,14 @@ desk r q names replies = record { records = r; requests = q; names = names; repl
 abbrev pub beside : Records → Requests → List Reply → Names → Desk
 beside r q replies names = desk r q names replies
 
--- a state with these endpoints and requests, in which these names are known of a peer and as many replies are owed to it
+-- a state with these endpoints and requests, in which these names are known of a peer, as many replies are owed to it, and it has no
+-- open part
 pub record Shows (s : DomainState) (peer : ℕ) (b : Book) (d : Desk) : Type 0 where
   pub endpoints : s.endpoints ≡ endpoints_in b d.records.endpoints
   pub requests : s.requests ≡ requests_in b d.requests.standing
   pub known : names_of (peer_at s peer) ≡ d.names
   pub owed : replies_to (peer_at s peer) ≡ length d.replies
+  pub closed : part_of s peer ≡ None
 
 -- ---- verdicts, by the row of the frame
 
@@ -189,12 +191,12 @@ pub record IsHeard (peer : ℕ) (its : Row) (fate : Fate) (names names' : Names)
 
 -- ---- letters
 
--- an item, and the one in a frame of this name or none, whose content of this size lies behind 24 bytes of headers
-abbrev pub item_with : Option ℕ → ℕ → ℕ → ℕ → Option ℕ → List ℕ → Item
-item_with name peer source priority channel content = record { peer = peer; source = source; priority = priority; channel = channel; content = content; frames = option_to_list name }
+-- an item of these frames, and the one in a frame, whose content of this size lies behind 24 bytes of headers
+abbrev pub item_with : List ℕ → ℕ → ℕ → ℕ → Option ℕ → List ℕ → Item
+item_with names peer source priority channel content = record { peer = peer; source = source; priority = priority; channel = channel; content = content; frames = names }
 
-abbrev pub framed_item : Option ℕ → ℕ → List ℕ → ℕ → Item
-framed_item name peer frame size = item_with name peer (source_of frame) (priority_of frame) (channel_of frame) (take size (drop 24 frame))
+abbrev pub framed_item : List ℕ → ℕ → List ℕ → ℕ → Item
+framed_item names peer frame size = item_with names peer (source_of frame) (priority_of frame) (channel_of frame) (take size (drop 24 frame))
 
 -- letters that bring an item
 abbrev pub IsItem : PlainLetter → Type 0
@@ -210,18 +212,18 @@ IsInBounds (packet number content) = length content ≤ item_size
 IsInBounds (connect number kind) = 0 < number
 IsInBounds other = Unit {0}
 
--- the row of a letter from a peer, in a frame of this name or none, and the verdict on it
-abbrev pub letter_row : DomainState → Option ℕ → ℕ → ℕ → ℕ → PlainLetter → Row
-letter_row s name peer source destination l = first_row (letter_rows s peer name source destination (endpoint_of s destination) l)
+-- the row of a letter from a peer, by the frames that brought it, and the verdict on it
+abbrev pub letter_row : DomainState → Came → ℕ → ℕ → ℕ → PlainLetter → Row
+letter_row s came peer source destination l = first_row (letter_rows s peer came source destination (endpoint_of s destination) l)
 
-abbrev pub IsJudged : DomainState → Option ℕ → ℕ → ℕ → ℕ → PlainLetter → Verdict → Desk → Desk → Type 0
-IsJudged s name peer source destination l (verdict.Queued place priority size) d d' =
-    IsItem l × (size ≡ length (taken.item_of peer name source l).content) × (priority ≡ (taken.item_of peer name source l).priority)
-    × IsQueued s (letter_row s name peer source destination l) (taken.item_of peer name source l) place × (d' ≡ d)
-IsJudged s name peer source destination l (verdict.Handed id a size) d d' =
-    IsItem l × (size ≡ length (taken.item_of peer name source l).content)
-    × IsHanded s d.requests (letter_row s name peer source destination l) (taken.item_of peer name source l) id a × (d' ≡ d)
-IsJudged s name peer source destination l (verdict.Returned fate) d d' = IsReturned s peer (letter_row s name peer source destination l) fate d d'
+abbrev pub IsJudged : DomainState → Came → ℕ → ℕ → ℕ → PlainLetter → Verdict → Desk → Desk → Type 0
+IsJudged s came peer source destination l (verdict.Queued place priority size) d d' =
+    IsItem l × (size ≡ length (taken.item_of peer came source l).content) × (priority ≡ (taken.item_of peer came source l).priority)
+    × IsQueued s (letter_row s came peer source destination l) (taken.item_of peer came source l) place × (d' ≡ d)
+IsJudged s came peer source destination l (verdict.Handed id a size) d d' =
+    IsItem l × (size ≡ length (taken.item_of peer came source l).content)
+    × IsHanded s d.requests (letter_row s came peer source destination l) (taken.item_of peer came source l) id a × (d' ≡ d)
+IsJudged s came peer source destination l (verdict.Returned fate) d d' = IsReturned s peer (letter_row s came peer source destination l) fate d d'
 
 -- an item of this size comes to the endpoint at a place: the oldest receive that waits there gets it, or the queue
 abbrev pub local_of : Records → ℕ → Option Local
@@ -255,21 +257,21 @@ connect_row s way number kind = first_row (connect_rows s way.peer way.source wa
 pub record Fits (frame : List ℕ) (size : ℕ) : Type 0 where
   pub short : size ≤ item_size
   pub inside : 24 + size ≤ length frame
-  pub whole : (peer : ℕ) → framed_item None peer frame size ≡ item_of peer frame
+  pub whole : (peer : ℕ) → framed_item (0 ∷ []) peer frame size ≡ item_of peer frame
 
 abbrev pub IsVerdict : DomainState → Option ℕ → ℕ → List ℕ → Verdict → Desk → Desk → Type 0
-IsVerdict s name peer frame (verdict.Queued place priority size) d d' = IsQueued s (row_of s peer name (reading frame)) (framed_item name peer frame size) place × Fits frame size × (priority_of frame ≡ priority) × (d' ≡ d)
-IsVerdict s name peer frame (verdict.Handed id a size) d d' = IsHanded s d.requests (row_of s peer name (reading frame)) (framed_item name peer frame size) id a × Fits frame size × (d' ≡ d)
-IsVerdict s name peer frame (verdict.Returned fate) d d' = IsReturned s peer (row_of s peer name (reading frame)) fate d d'
+IsVerdict s name peer frame (verdict.Queued place priority size) d d' = IsQueued s (row_from s peer name frame) (framed_item (named_so name ∷ []) peer frame size) place × Fits frame size × (priority_of frame ≡ priority) × (d' ≡ d)
+IsVerdict s name peer frame (verdict.Handed id a size) d d' = IsHanded s d.requests (row_from s peer name frame) (framed_item (named_so name ∷ []) peer frame size) id a × Fits frame size × (d' ≡ d)
+IsVerdict s name peer frame (verdict.Returned fate) d d' = IsReturned s peer (row_from s peer name frame) fate d d'
 
--- ---- what is said of functions: in each state with what they have, whatever name the frame has
+-- ---- what is said of functions: in each state with what they have, whatever names the frames have
 
 abbrev pub Deals : ℕ → List ℕ → Verdict → Desk → Desk → Type 0
 Deals peer frame v d d' = (b : Book) (s : DomainState) (name : Option ℕ) → Shows s peer b d → IsVerdict s name peer frame v d d'
 
 abbrev pub Judges : Way → PlainLetter → Verdict → (Names → Desk) → (Names → Desk) → Type 0
-Judges way l v d d' = (b : Book) (s : DomainState) (name : Option ℕ) (names : Names) → Shows s way.peer b (d names)
-    → IsJudged s name way.peer way.source way.destination l v (d names) (d' names)
+Judges way l v d d' = (b : Book) (s : DomainState) (came : Came) (names : Names) → Shows s way.peer b (d names)
+    → IsJudged s came way.peer way.source way.destination l v (d names) (d' names)
 
 abbrev pub Answers : Way → ℕ → Kind → Fate → (Names → Desk) → (Names → Desk) → Type 0
 Answers way number kind fate d d' = (b : Book) (s : DomainState) (names : Names) → Shows s way.peer b (d names)

@@ -1,7 +1,7 @@
 //! What becomes of a frame that is taken.
 
-ghost use Rattle.std.specs.Prelude.{◌≡◌, ◌<◌, length};
-ghost use Rattle.mc_base.specs.Letter.{plain_letter};
+ghost use Rattle.std.specs.Prelude.{◌≡◌, ◌<◌, None, length};
+ghost use Rattle.mc_base.specs.Letter.{piece_in, plain_letter};
 ghost use Rattle.domain_parts.specs.InRequests.{AreReceives};
 ghost use Rattle.domain_parts.specs.Verdicts.{Brings, Deals, IsInBounds, Judges, beside, desk, fate_of};
 
@@ -76,18 +76,22 @@ pub fn deal(
     match read_frame(frame) {
         Said::Faulty(fault) => Verdict::Returned(fault_fate(fault)),
         Said::Announces(ns) => Verdict::Returned(hear(known, requests, peer, &ns)),
-        Said::Sends { src, dst, letter } => {
-            let way = Way {
-                peer,
-                source: src,
-                destination: dst,
-            };
-            judge(endpoints, requests, replies, way, &letter)
-        }
+        Said::Sends { src, dst, letter } => match letter {
+            // No part is open that it could go on with.
+            Letter::MsgPart { .. } | Letter::PacketPart { .. } => Verdict::Returned(Fate::Stray),
+            _ => {
+                let way = Way {
+                    peer,
+                    source: src,
+                    destination: dst,
+                };
+                judge(endpoints, requests, replies, way, &letter)
+            }
+        },
     }
 }
 
-/// The verdict on a letter.
+/// The verdict on a letter, which is no part of one.
 fn judge(
     endpoints: &mut Endpoints,
     requests: &mut RequestSet,
@@ -96,6 +100,7 @@ fn judge(
     letter: &Letter<'_>,
 ) -> Verdict
     requires receives { AreReceives requests.old }
+    requires whole { piece_in letter.now ≡ None }
     requires short { IsInBounds (plain_letter letter.now) }
     ensures { let old = beside endpoints.old requests.old replies.old in Judges way (plain_letter letter.now) result old (beside endpoints.new requests.new replies.new) }
 {

@@ -3,7 +3,7 @@
 ghost use Rattle.std.specs.Prelude.{◌≡◌, ◌↔◌, ◌+◌, ◌<◌, ◌≤◌, [], ◌∷◌, Contains, IfSome, IsNone, Some, is_some, length, map, sum_by};
 ghost use Rattle.board_model.specs.State.{address_at, endpoint_at, free_to, lent_from, place_at, place_of_peer, queued_from};
 ghost use Rattle.mc_base.specs.Frame.{made};
-ghost use Rattle.mc_base.specs.Letter.{HasSpelling, plain_letter, spelling};
+ghost use Rattle.mc_base.specs.Letter.{FitsFrame, letter_text, saying_of};
 ghost use Rattle.board_model.specs.Answer.{address_of, has_channel};
 ghost use Rattle.board_model.specs.Journal.{noted_all};
 ghost use Rattle.board_model.specs.Serial.{put_entry};
@@ -151,12 +151,12 @@ impl<P: PeerLane> Holdings<P> {
         letter: &Letter<'_>,
     )
         requires free { 0 < free_to (state_of self.old.parts) number }
-        requires lawful { HasSpelling (plain_letter letter.now) }
-        requires short { length (spelling (plain_letter letter.now)) ≤ 496 }
+        requires lawful { FitsFrame (saying_of letter.now) }
+        requires short { length (letter_text letter.now) ≤ 496 }
         requires entry_room { 1 ≤ journal.old.entry_room }
         requires byte_room { 512 ≤ journal.old.byte_room }
-        ensures did { Did P.Moved (frame_put number (made source destination (spelling (plain_letter letter.now))) ∷ []) self.old self.new }
-        ensures told { journal.new.lines ≡ noted_all journal.old.lines (put_entry (number, made source destination (spelling (plain_letter letter.now))) ∷ []) }
+        ensures did { Did P.Moved (frame_put number (made source destination (letter_text letter.now)) ∷ []) self.old self.new }
+        ensures told { journal.new.lines ≡ noted_all journal.old.lines (put_entry (number, made source destination (letter_text letter.now)) ∷ []) }
         ensures entry_room { journal.old.entry_room ≤ journal.new.entry_room + 1 }
         ensures byte_room { journal.old.byte_room ≤ journal.new.byte_room + 512 }
     {

@@ -2,7 +2,7 @@
 
 ghost use Rattle.std.specs.Prelude.{◌≡◌, ◌≤◌, ◌<◌, ◌++◌, min, length, take, drop};
 ghost use Rattle.mc_base.specs.Frame.{made};
-ghost use Rattle.mc_base.specs.Letter.{HasSpelling, plain_letter, spelling};
+ghost use Rattle.mc_base.specs.Letter.{FitsFrame, letter_text, saying_of};
 
 use bridge_frame::write_letter;
 use mc_base::{FRAME_HEADER_SIZE, Got, LETTER_HEADER_SIZE, Letter};
@@ -11,12 +11,12 @@ use rpmsg_frame::write_header;
 /// Where the content lies in the buffer of a message.
 pub const CONTENT: u32 = (FRAME_HEADER_SIZE + LETTER_HEADER_SIZE) as u32;
 
-/// Writes the frame of a letter and returns its length in bytes. The rest of `out` stays.
+/// Writes the frame of a letter or of a part of one, and returns its length in bytes. The rest of `out` stays.
 pub fn write(out: &mut [u8], source: u32, destination: u32, letter: &Letter<'_>) -> u32
-    requires lawful { HasSpelling (plain_letter letter.now) }
-    requires short { length (spelling (plain_letter letter.now)) ≤ 496 }
+    requires lawful { FitsFrame (saying_of letter.now) }
+    requires short { length (letter_text letter.now) ≤ 496 }
     requires room { length out.old ≡ 512 }
-    ensures frame { take result out.new ≡ made source destination (spelling (plain_letter letter.now)) }
+    ensures frame { take result out.new ≡ made source destination (letter_text letter.now) }
     ensures some { 0 < result }
     ensures len { result ≤ 512 }
 {
@@ -27,10 +27,10 @@ pub fn write(out: &mut [u8], source: u32, destination: u32, letter: &Letter<'_>)
 
 /// Writes a letter behind the header of its frame and returns the letter's length in bytes.
 fn write_payload(out: &mut [u8], letter: &Letter<'_>) -> usize
-    requires lawful { HasSpelling (plain_letter letter.now) }
+    requires lawful { FitsFrame (saying_of letter.now) }
     requires room { length out.old ≡ 512 }
-    ensures payload { let text = spelling (plain_letter letter.now) in drop 16 out.new ≡ text ++ drop (length text) (drop 16 out.old) }
-    ensures len { result ≡ length (spelling (plain_letter letter.now)) }
+    ensures payload { let text = letter_text letter.now in drop 16 out.new ≡ text ++ drop (length text) (drop 16 out.old) }
+    ensures len { result ≡ length (letter_text letter.now) }
 {
     write_letter(letter, &mut out[FRAME_HEADER_SIZE..])
 }

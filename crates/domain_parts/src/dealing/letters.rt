@@ -50,7 +50,10 @@ fn size_of(letter: &Letter<'_>) -> u32
     ensures { result ≡ size_of (plain_letter letter.now) }
 {
     match *letter {
-        Letter::Msg { bytes, .. } | Letter::Packet { bytes, .. } => bytes.len() as u32,
+        Letter::Msg { bytes, .. }
+        | Letter::Packet { bytes, .. }
+        | Letter::MsgPart { bytes, .. }
+        | Letter::PacketPart { bytes, .. } => bytes.len() as u32,
         Letter::Scalar { bits, .. } => match bits {
             Bits::B8 => 1,
             Bits::B16 => 2,
@@ -96,6 +99,8 @@ fn settle(requests: &mut RequestSet, at: Local, letter: &Letter<'_>)
         | Letter::SendOpen { .. }
         | Letter::Packet { .. }
         | Letter::Scalar { .. }
-        | Letter::RecvClose { .. } => {}
+        | Letter::RecvClose { .. }
+        | Letter::MsgPart { .. }
+        | Letter::PacketPart { .. } => {}
     }
 }

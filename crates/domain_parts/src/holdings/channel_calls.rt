@@ -1,7 +1,7 @@
 //! The calls that make, open and close channels, after their turns.
 
 ghost use Rattle.std.specs.Prelude.{◌≡◌, ◌<◌, ◌≤◌, ◌+◌, ◌∷◌, [], ◌||◌, ◌==◌, None, Ok, Some, length, map, nat_le, not, option_map};
-ghost use Rattle.mc_base.specs.Letter.{plain_letter};
+ghost use Rattle.mc_base.specs.Letter.{saying_of, whole};
 ghost use Rattle.mc_base.specs.Limits.{request_limit};
 ghost use Rattle.mc_base.specs.declared.refusal.Refusal.TheVariants.{ChanClosed};
 ghost use Rattle.board_model.specs.Answer.{channel_at, channel_limit, closing_letter, opening_letter, puts};
@@ -247,7 +247,7 @@ impl<P: PeerLane> Holdings<P> {
 
 /// The letter by which a side opens its end of a channel.
 fn opening_letter<'a>(side: Side, channel: u32) -> Letter<'a>
-    ensures { plain_letter result ≡ opening_letter side channel }
+    ensures { saying_of result ≡ whole (opening_letter side channel) }
 {
     match side {
         Side::Sender => Letter::SendOpen { channel },
@@ -257,7 +257,7 @@ fn opening_letter<'a>(side: Side, channel: u32) -> Letter<'a>
 
 /// The letter by which a side closes its end of a channel.
 fn closing_letter<'a>(side: Side, channel: u32) -> Letter<'a>
-    ensures { plain_letter result ≡ closing_letter side channel }
+    ensures { saying_of result ≡ whole (closing_letter side channel) }
 {
     match side {
         Side::Sender => Letter::SendClose { channel },

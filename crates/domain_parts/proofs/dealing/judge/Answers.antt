@@ -8,30 +8,30 @@ use Rattle.domain_parts.proofs.Readings.{none-from}
 use Rattle.domain_parts.proofs.dealing.judge.Goals as goal
 
 pub returns-in_default-place_of_address : goal.returns-in_default-place_of_address
-returns-in_default-place_of_address c = λ b s name names shows.
+returns-in_default-place_of_address c = λ b s came names shows.
     let way = c.args.way in
     let d = desk c.args.endpoints.now c.args.requests.now names c.args.replies.now in
     let none = sym (none-from c.place_of_address.result c.in_default-place_of_address.not-Some) ∙ c.place_of_address.ensures.place b in
     record {
       effect = nothing;
       applies = true;
-      row_is = nobody-row c.args.letter.now c.in_default.not-Connect s name way.peer way.source way.destination (nobody-there b d s way.peer shows way.destination none);
+      row_is = nobody-row c.args.letter.now c.in_default.not-Connect s came way.peer way.source way.destination (nobody-there b d s way.peer shows way.destination none);
       returned = refl;
       placed = tt;
       left = refl;
     }
 
 pub returns-in_default-letter : goal.returns-in_default-letter
-returns-in_default-letter c = λ b s name names shows.
+returns-in_default-letter c = λ b s came names shows.
     let way = c.args.way in
     let d = desk c.args.endpoints.now c.args.requests.now names c.args.replies.now in
     let at = c.in-Some.place in
     let one = one-there c.args.endpoints.now.endpoints at c.in-Some.ensures.within in
-    let of = of-channel c.args.letter.now c.in_default-letter.not-Msg c.in_default.not-Connect in
-    acted-judged b d s name way.peer shows way.source way.destination at one.0 (c.in-Some.ensures.place b) one.1 (plain_letter c.args.letter.now) of c.requires.receives c.act.new.endpoints c.act.new.requests c.act.result c.act.ensures
+    let of = of-channel c.args.letter.now c.in_default-letter.not-Msg c.in_default.not-Connect c.requires.whole in
+    acted-judged b d s came way.peer shows way.source way.destination at one.0 (c.in-Some.ensures.place b) one.1 (plain_letter c.args.letter.now) of c.requires.receives c.act.new.endpoints c.act.new.requests c.act.result c.act.ensures
 
 pub returns-then-has_channel : goal.returns-then-has_channel
-returns-then-has_channel c = λ b s name names shows.
+returns-then-has_channel c = λ b s came names shows.
     let way = c.args.way in
     let d = desk c.args.endpoints.now c.args.requests.now names c.args.replies.now in
     let at = c.in-Some.place in
@@ -41,22 +41,22 @@ returns-then-has_channel c = λ b s name names shows.
       effect = nothing;
       applies = true;
       row_is =
-          ap (λ l. letter_row s name way.peer way.source way.destination l) (ap plain_letter c.in-Msg.is)
-          ∙ on-channel b d s way.peer shows way.destination at one.0 (c.in-Some.ensures.place b) one.1 name way.source c.in-Msg.priority c.in-Msg.bytes.now some.0 some.1;
+          ap (λ l. letter_row s came way.peer way.source way.destination l) (ap plain_letter c.in-Msg.is)
+          ∙ on-channel b d s way.peer shows way.destination at one.0 (c.in-Some.ensures.place b) one.1 came way.source c.in-Msg.priority c.in-Msg.bytes.now some.0 some.1;
       returned = refl;
       placed = tt;
       left = refl;
     }
 
 pub returns : goal.returns
-returns c = λ b s name names shows.
+returns c = λ b s came names shows.
     let way = c.args.way in
     let d = desk c.args.endpoints.now c.args.requests.now names c.args.replies.now in
     let at = c.in-Some.place in
     let one = one-there c.args.endpoints.now.endpoints at c.in-Some.ensures.within in
     let l = msg c.in-Msg.priority c.in-Msg.bytes.now in
-    let item = message_item way.peer name way.source c.in-Msg.priority c.in-Msg.bytes.now in
+    let item = message_item way.peer came way.source c.in-Msg.priority c.in-Msg.bytes.now in
     let none = no-channel one.0.channel (has-read c.args.endpoints.now.endpoints at one.0 one.1 c.has_channel.result c.has_channel.ensures ∙ c.if-has_channel.false) in
-    let row = message-row b d s way.peer shows way.destination at one.0 (c.in-Some.ensures.place b) one.1 name way.source c.in-Msg.priority c.in-Msg.bytes.now none in
-    subst (λ m. IsJudged s name way.peer way.source way.destination m c.bring.result d d) (sym (ap plain_letter c.in-Msg.is))
-    (brought-judged b d s way.peer shows way.destination at one.0 (c.in-Some.ensures.place b) one.1 (letter_row s name way.peer way.source way.destination l) item row name way.source l refl refl tt c.requires.receives c.in-Msg.priority _ refl refl c.bring.result c.bring.ensures)
+    let row = message-row b d s way.peer shows way.destination at one.0 (c.in-Some.ensures.place b) one.1 came way.source c.in-Msg.priority c.in-Msg.bytes.now none in
+    subst (λ m. IsJudged s came way.peer way.source way.destination m c.bring.result d d) (sym (ap plain_letter c.in-Msg.is))
+    (brought-judged b d s way.peer shows way.destination at one.0 (c.in-Some.ensures.place b) one.1 (letter_row s came way.peer way.source way.destination l) item row came way.source l refl refl tt c.requires.receives c.in-Msg.priority _ refl refl c.bring.result c.bring.ensures)

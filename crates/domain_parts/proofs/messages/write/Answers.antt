@@ -1,6 +1,6 @@
 use Rattle.std.proofs.Common.{◌≡◌, ◌∙◌, ◌+◌, ◌++◌, ap, sym, arith, length, take, drop, List, ℕ, append_assoc, length-append}
 use Rattle.mc_base.specs.Frame.{header, made}
-use Rattle.mc_base.specs.Letter.{plain_letter, spelling}
+use Rattle.mc_base.specs.Letter.{letter_text}
 use Rattle.std.proofs.lemmas.List.{take_at}
 use Rattle.domain_parts.proofs.messages.write.Goals as goal
 
@@ -12,7 +12,7 @@ frame-cut src dst n text rest is =
 
 pub returns-clause-frame : goal.returns-clause-frame
 returns-clause-frame c =
-    let text = spelling (plain_letter c.args.letter.now) in
+    let text = letter_text c.args.letter.now in
     let len = c.write_payload-len.result in
     let rest = drop (length text) (drop 16 c.args.out.now) in
     let written : c.write_header.new.out ≡ header c.args.source c.args.destination len ++ drop 16 c.write_payload-len.new.out = c.write_header.ensures in

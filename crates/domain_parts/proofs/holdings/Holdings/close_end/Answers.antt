@@ -1,7 +1,7 @@
 use Rattle.std.proofs.Common.{◌≡◌, ◌∙◌, ◌<◌, ℕ, List, ◌∷◌, ◌++◌, [], Option, None, Some, ap, length, map, sym, refl, subst, rules}
 use Rattle.std.specs.Prelude.{Err, Ok, position, ◌==◌}
 use Rattle.mc_base.specs.Frame.{made}
-use Rattle.mc_base.specs.Letter.{PlainLetter, plain_letter, spelling}
+use Rattle.mc_base.specs.Letter.{Saying, letter_text, saying_text, spelling}
 use Rattle.mc_base.specs.declared.refusal.Refusal.{Refusal}
 use Rattle.mc_base.specs.declared.request.Slot.{Slot}
 use Rattle.board_model.specs.Answer.{channel_at, lacks_buffers, closing_letter, refusal, success_puts}
@@ -75,8 +75,8 @@ module _ (g : Over) (c : goal.After-set_channel g) where
       ∙ ap (λ (o : Option Refusal). or_lacks o (lacks_buffers s (success_puts s c.args.at.node (close_at c.args.at.port c.args.side)))) (answered-none _ (sym c.in_ok-may_close.was ∙ c.may_close.ensures))
       ∙ ap (or_lacks None) (ap (lacks_buffers s) frames ∙ lacks-none s (end.peer, frame) (subst (λ (n : ℕ). 0 < n) c.free_to.ensures free))
 
-  said : made c.address_at-source.result end.peer_address (spelling (plain_letter c.closing_letter-letter.result)) ≡ frame
-  said = ap (λ (l : PlainLetter). made c.address_at-source.result end.peer_address (spelling l)) c.closing_letter-letter.ensures
+  said : made c.address_at-source.result end.peer_address (letter_text c.closing_letter-letter.result) ≡ frame
+  said = ap (λ (s : Saying). made c.address_at-source.result end.peer_address (saying_text s)) c.closing_letter-letter.ensures
 
 pub set_channel-requires-clause-within : goal.set_channel-requires-clause-within
 set_channel-requires-clause-within g c =
@@ -97,7 +97,7 @@ returns-clause-acts g c =
     let call = close_at c.args.at.port side in
     let d = (end g c).peer in
     let ss = slots_at old.parts.records i in
-    let put = frame_put d (made c.address_at-source.result (end g c).peer_address (spelling (plain_letter c.closing_letter-letter.result))) in
+    let put = frame_put d (made c.address_at-source.result (end g c).peer_address (letter_text c.closing_letter-letter.result)) in
     let set = channel_set i (kept c.closed.new.self) in
     let slots : slots_at c.put_letter.new.self.parts.records i ≡ ss = ap (λ (p : Parts). slots_at p.records i) c.put_letter.ensures.did.parts in
     let emptied = subst (λ (xs : List Slot). Did M (put ∷ emptying side i at xs) old mid) slots (emptied-did M at i both side (put ∷ []) old c.put_letter.new.self mid c.put_letter.ensures.did c.empty_end-dropped.ensures.did) in

@@ -1,7 +1,7 @@
 use Rattle.std.proofs.Common.{◌≡◌, ◌∙◌, ◌<◌, ℕ, List, ◌∷◌, [], Option, None, Some, ap, map, sym, refl, subst, rules}
 use Rattle.std.specs.Prelude.{Err, position, ◌==◌}
 use Rattle.mc_base.specs.Frame.{made}
-use Rattle.mc_base.specs.Letter.{PlainLetter, plain_letter, spelling}
+use Rattle.mc_base.specs.Letter.{Saying, letter_text, saying_text, spelling}
 use Rattle.mc_base.specs.declared.refusal.Refusal.{Refusal}
 use Rattle.board_model.specs.Answer.{channel_at, lacks_buffers, opening_letter, refusal, success_puts, unless_refused}
 use Rattle.board_model.specs.DomainCall.{open_at}
@@ -79,8 +79,8 @@ module _ (g : Over) (c : goal.After-set_channel g) where
       ∙ ap (λ (o : Option Refusal). or_lacks o (lacks_buffers s (success_puts s c.args.at.node (open_at c.args.at.port c.args.side c.args.kind)))) (answered-none _ (sym c.in_ok-may_open.was ∙ c.may_open.ensures))
       ∙ ap (or_lacks None) (ap (lacks_buffers s) frames ∙ lacks-none s (end.peer, frame) (subst (λ (n : ℕ). 0 < n) c.free_to.ensures free))
 
-  said : made c.address_at-source.result end.peer_address (spelling (plain_letter c.opening_letter-letter.result)) ≡ frame
-  said = ap (λ (l : PlainLetter). made c.address_at-source.result end.peer_address (spelling l)) c.opening_letter-letter.ensures
+  said : made c.address_at-source.result end.peer_address (letter_text c.opening_letter-letter.result) ≡ frame
+  said = ap (λ (s : Saying). made c.address_at-source.result end.peer_address (saying_text s)) c.opening_letter-letter.ensures
 
 pub returns-clause-acts : goal.returns-clause-acts
 returns-clause-acts g c =
@@ -89,7 +89,7 @@ returns-clause-acts g c =
     let i = c.in-Some.place in
     let call = open_at c.args.at.port c.args.side c.args.kind in
     let d = (end g c).peer in
-    let put = frame_put d (made c.address_at-source.result (end g c).peer_address (spelling (plain_letter c.opening_letter-letter.result))) in
+    let put = frame_put d (made c.address_at-source.result (end g c).peer_address (letter_text c.opening_letter-letter.result)) in
     let set = channel_set i (kept c.opened.new.self) in
     let did = did-then M g.met.P.PeerLane.both (put ∷ []) (set ∷ []) old c.put_letter.new.self c.set_channel.new.self c.put_letter.ensures.did c.set_channel.ensures in
     let is =

@@ -1,17 +1,21 @@
-use Rattle.std.proofs.Common.{◌≡◌, ◌∙◌, ◌<◌, ℕ, Bool, false, List, ◌∷◌, [], cond, Option, None, Some, ap, map, sym, refl, subst, rules}
-use Rattle.std.specs.Prelude.{Err, nat_lt, position, length, ◌==◌}
+use Rattle.std.proofs.Common.{◌≡◌, ◌∙◌, ◌<◌, ℕ, Bool, false, true, List, ◌∷◌, [], cond, Option, None, Some, ap, map, sym, refl, subst, rules}
+use Rattle.std.specs.Prelude.{Err, nat_le, nat_lt, position, length, ◌==◌}
+use Rattle.std.proofs.lemmas.Bool.{le-leb, ltb-false}
 use Rattle.mc_base.specs.Frame.{made}
-use Rattle.mc_base.specs.Letter.{PlainLetter, spelling, packet}
-use Rattle.mc_base.specs.Limits.{item_size}
+use Rattle.mc_base.specs.Letter.{PlainLetter, of_packet, packet, piece_spelling, spelling}
+use Rattle.mc_base.specs.Limits.{item_size, single_size}
+use Rattle.mc_base.specs.Pieces.{parts_of}
 use Rattle.mc_base.specs.declared.channel.Kind.TheVariants.{Packet}
 use Rattle.mc_base.specs.declared.refusal.Refusal.{Refusal}
 use Rattle.mc_base.specs.declared.refusal.Refusal.TheVariants.{NoBuffer, PktSize}
 use Rattle.board_model.specs.Answer.{channel_at, lacks_buffers, refusal, success_puts, unless_refused}
+use Rattle.board_model.specs.CallChanges.{at_end, success_changes}
+use Rattle.board_model.specs.Change.{buffers_used}
 use Rattle.board_model.specs.ChannelEnds.{sends}
 use Rattle.board_model.specs.DomainCall.{DomainCall, packet_from}
 use Rattle.board_model.specs.Journal.{agrees, noted_all}
 use Rattle.board_model.specs.Serial.{put_entry}
-use Rattle.board_model.specs.State.{ChannelEnd, place_at}
+use Rattle.board_model.specs.State.{ChannelEnd, live_at, place_at}
 use Rattle.packet_channel.specs.End.{end_of}
 use Rattle.domain_parts.specs.Calls.{sent}
 use Rattle.domain_parts.specs.CallSteps.{Acts, putting_all}
@@ -20,6 +24,7 @@ use Rattle.domain_parts.specs.Steps.{Did, Step}
 use Rattle.domain_parts.proofs.Calling.{puts-done}
 use Rattle.domain_parts.proofs.Channels.{answered-none, answered-word, data-words, lacks-none, or_then}
 use Rattle.domain_parts.proofs.DataMeaning.{data-means, data-puts}
+use Rattle.domain_parts.proofs.OneFrame.{IsSingle}
 use Rattle.domain_parts.proofs.Steps.{free-place, not-zero}
 use Rattle.domain_parts.proofs.Stepping.{acts-done, acts-refused}
 use Rattle.domain_parts.proofs.holdings.Holdings.put_packet.Given.{Over}
@@ -78,11 +83,24 @@ module _ (g : Over) (c : goal.After-put_letter g) where
   peer : (j : ℕ) × (Some j ≡ position (λ x. x.number == end.peer) c.args.self.now.parts.peers)
   peer = free-place c.args.self.now.parts end.peer (subst (λ (n : ℕ). 0 < n) c.free_to.ensures free)
 
-  frames : success_puts (state_of c.args.self.now.parts) c.args.at.node call ≡ (end.peer, frame) ∷ []
-  frames = data-puts c.args.self.now.parts c.in-Some.ensures.sound c.args.at c.in-Some.place there end has c.address_at-source.result c.address_at-source.ensures peer.0 peer.1 call letter refl refl
-
   short : nat_lt item_size (length c.args.bytes.now) ≡ false
   short = search rules
+
+  fits : nat_le (length c.args.bytes.now) single_size ≡ true
+  fits = le-leb (length c.args.bytes.now) single_size (ltb-false item_size (length c.args.bytes.now) short)
+
+  -- it goes in one frame, whatever its channel
+  abbrev frames_by : Bool → ℕ → List (List ℕ)
+  frames_by one number = cond one (spelling (letter number) ∷ []) (map piece_spelling (parts_of (of_packet number) c.args.bytes.now))
+
+  single : (number : ℕ) → IsSingle (letter number)
+  single number = ap (λ (b : Bool). frames_by b number) fits
+
+  changes : success_changes (state_of c.args.self.now.parts) c.args.at.node call ≡ at_end (live_at (state_of c.args.self.now.parts) c.args.at) (λ e d. buffers_used d.peer 1 ∷ [])
+  changes = ap (λ (b : Bool). at_end (live_at (state_of c.args.self.now.parts) c.args.at) (λ e d. buffers_used d.peer (length (frames_by b d.number)) ∷ [])) fits
+
+  frames : success_puts (state_of c.args.self.now.parts) c.args.at.node call ≡ (end.peer, frame) ∷ []
+  frames = data-puts c.args.self.now.parts c.in-Some.ensures.sound c.args.at c.in-Some.place there end has c.address_at-source.result c.address_at-source.ensures peer.0 peer.1 call letter refl refl (single end.number)
 
   unrefused : refusal (state_of c.args.self.now.parts) c.args.at.node call ≡ None
   unrefused =
@@ -102,7 +120,7 @@ returns-clause-acts g c =
     acts-done M c.args.at.node (call g c) old c.put_letter.new.self agrees None (unrefused g c) refl
     (record {
       did = subst (λ (cs : List Step). Did M cs old c.put_letter.new.self) (sym (ap putting_all puts)) c.put_letter.ensures.did;
-      means = data-means old.parts c.in-Some.ensures.sound c.args.at i (there g c) (end g c) (has g c) c.address_at-source.result c.address_at-source.ensures (peer g c).0 (peer g c).1 (call g c) (letter g c) puts refl refl refl refl refl refl;
+      means = data-means old.parts c.in-Some.ensures.sound c.args.at i (there g c) (end g c) (has g c) c.address_at-source.result c.address_at-source.ensures (peer g c).0 (peer g c).1 (call g c) (letter g c) puts refl (changes g c) refl refl refl refl;
     })
 
 pub returns-clause-told : goal.returns-clause-told

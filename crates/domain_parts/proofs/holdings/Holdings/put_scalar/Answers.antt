@@ -78,7 +78,7 @@ module _ (g : Over) (c : goal.After-put_letter g) where
   peer = free-place c.args.self.now.parts end.peer (subst (λ (n : ℕ). 0 < n) c.free_to.ensures free)
 
   frames : success_puts (state_of c.args.self.now.parts) c.args.at.node call ≡ (end.peer, frame) ∷ []
-  frames = data-puts c.args.self.now.parts c.in-Some.ensures.sound c.args.at c.in-Some.place there end has c.address_at-source.result c.address_at-source.ensures peer.0 peer.1 call letter refl refl
+  frames = data-puts c.args.self.now.parts c.in-Some.ensures.sound c.args.at c.in-Some.place there end has c.address_at-source.result c.address_at-source.ensures peer.0 peer.1 call letter refl refl refl
 
   unrefused : refusal (state_of c.args.self.now.parts) c.args.at.node call ≡ None
   unrefused =
