@@ -44,12 +44,12 @@ module _ (s : DomainState) (peer : ℕ) (name : Option ℕ) (frame : List ℕ) (
 
 -- ---- letters that are put
 
-item_alone : (k : Carrier) (bytes : List ℕ) → length bytes ≤ single_size → item_spellings k bytes ≡ spelling (carried k bytes) ∷ []
-item_alone k bytes short = ap (λ c. cond c (spelling (carried k bytes) ∷ []) (map piece_spelling (parts_of k bytes))) (le-leb (length bytes) single_size short)
+pub item-alone : (k : Carrier) (bytes : List ℕ) → length bytes ≤ single_size → item_spellings k bytes ≡ spelling (carried k bytes) ∷ []
+item-alone k bytes short = ap (λ c. cond c (spelling (carried k bytes) ∷ []) (map piece_spelling (parts_of k bytes))) (le-leb (length bytes) single_size short)
 
 pub one-spelling : (l : PlainLetter) → HasSpelling l → spellings l ≡ spelling l ∷ []
-one-spelling (msg priority bytes) has = item_alone (of_message priority) bytes has.1
-one-spelling (packet number bytes) has = item_alone (of_packet number) bytes has.1
+one-spelling (msg priority bytes) has = item-alone (of_message priority) bytes has.1
+one-spelling (packet number bytes) has = item-alone (of_packet number) bytes has.1
 one-spelling (connect number kind) has = refl
 one-spelling (accept number) has = refl
 one-spelling (reject number why) has = refl
