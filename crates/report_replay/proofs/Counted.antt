@@ -1,27 +1,47 @@
--- Counts of the items that are lent.
-use Rattle.std.proofs.Common.{◌≡◌, ℕ, ◌+◌, Bool, List, [], ◌∷◌, ◌++◌, map, refl, arith, Option, Some, None}
-use Rattle.std.specs.Prelude.{count_by}
+-- Counts of the frames that brought items, in queues and lent.
+use Rattle.std.proofs.Common.{◌≡◌, ℕ, ◌+◌, Bool, true, false, cond, List, [], ◌∷◌, ◌++◌, length, length-append, map, refl, arith}
+use Rattle.std.specs.Prelude.{filter, sum_by}
 use Rattle.std.specs.List.{flat_map}
-use Rattle.board_model.specs.State.{Outcome, has_address, is_accepted, is_rejected, has_item, has_ended, Request, LentPacket, is_from, item_in}
-use Rattle.board_model.proofs.ListsCounts.{one_if, count-cons, count-append}
-use Rattle.report_replay.specs.Replayed.{from_in, holds_from}
+use Rattle.std.proofs.lemmas.List.Sums.{sum_by-cons}
+use Rattle.board_model.specs.State.{Item, Endpoint, Request, LentPacket, is_from, item_in, frames_from}
 
-count-map : {A B : Type 0} (w : B → Bool) (f : A → B) (xs : List A) → count_by w (map f xs) ≡ count_by (λ x. w (f x)) xs
-count-map w f [] = refl
-count-map w f (x ∷ xs) = omega (arith, count-cons w (f x) (map f xs), count-cons (λ y. w (f y)) x xs, count-map w f xs)
+pub frames-cons : (n : ℕ) (i : Item) (is : List Item) → length (frames_from n (i ∷ is)) ≡ length (frames_from n (i ∷ [])) + length (frames_from n is)
+frames-cons n i is = go (is_from n i)
+  where
+    go : (b : Bool) → length (flat_map (λ (x : Item). x.frames) (cond b (i ∷ filter (is_from n) is) (filter (is_from n) is))) ≡ length (flat_map (λ (x : Item). x.frames) (cond b (i ∷ []) [])) + length (frames_from n is)
+    go true = omega (arith, length-append i.frames (frames_from n is), length-append i.frames [])
+    go false = omega arith
 
-one_item : (n : ℕ) (o : Option Outcome) → count_by (is_from n) (item_in o) ≡ one_if (from_in n o)
-one_item n None = refl
-one_item n (Some (has_address address)) = refl
-one_item n (Some is_accepted) = refl
-one_item n (Some (is_rejected reason)) = refl
-one_item n (Some (has_item i)) = omega (arith, count-cons (is_from n) i [])
-one_item n (Some (has_ended word)) = refl
+pub frames-append : (n : ℕ) (is js : List Item) → length (frames_from n (is ++ js)) ≡ length (frames_from n is) + length (frames_from n js)
+frames-append n [] js = omega arith
+frames-append n (i ∷ is) js = omega (arith, frames-cons n i (is ++ js), frames-append n is js, frames-cons n i is)
 
-count-held : (n : ℕ) (rs : List Request) → count_by (is_from n) (flat_map (λ r. item_in r.outcome) rs) ≡ count_by (holds_from n) rs
-count-held n [] = refl
-count-held n (r ∷ rs) = omega (arith, count-append (is_from n) (item_in r.outcome) (flat_map (λ q. item_in q.outcome) rs), one_item n r.outcome, count-cons (holds_from n) r rs, count-held n rs)
+-- ---- how many brought an item, a queue, a lent packet, and the item of a request
 
--- packets that are lent, and items of complete requests
-pub count-lent : (n : ℕ) (ps : List LentPacket) (rs : List Request) → count_by (is_from n) (map (λ p. p.item) ps ++ flat_map (λ r. item_in r.outcome) rs) ≡ count_by (λ (p : LentPacket). is_from n p.item) ps + count_by (holds_from n) rs
-count-lent n ps rs = omega (arith, count-append (is_from n) (map (λ (p : LentPacket). p.item) ps) (flat_map (λ r. item_in r.outcome) rs), count-map (is_from n) (λ (p : LentPacket). p.item) ps, count-held n rs)
+abbrev pub item_weight : ℕ → Item → ℕ
+item_weight n i = length (frames_from n (i ∷ []))
+
+abbrev pub queue_weight : ℕ → Endpoint → ℕ
+queue_weight n e = length (frames_from n e.queue)
+
+abbrev pub packet_weight : ℕ → LentPacket → ℕ
+packet_weight n p = item_weight n p.item
+
+abbrev pub request_weight : ℕ → Request → ℕ
+request_weight n r = length (frames_from n (item_in r.outcome))
+
+pub items-weighed : (n : ℕ) (is : List Item) → sum_by (item_weight n) is ≡ length (frames_from n is)
+items-weighed n [] = refl
+items-weighed n (i ∷ is) = omega (arith, sum_by-cons (item_weight n) i is, items-weighed n is, frames-cons n i is)
+
+pub queues-weighed : (n : ℕ) (es : List Endpoint) → sum_by (queue_weight n) es ≡ length (frames_from n (flat_map (λ e. e.queue) es))
+queues-weighed n [] = refl
+queues-weighed n (e ∷ es) = omega (arith, sum_by-cons (queue_weight n) e es, queues-weighed n es, frames-append n e.queue (flat_map (λ (x : Endpoint). x.queue) es))
+
+pub packets-weighed : (n : ℕ) (ps : List LentPacket) → sum_by (packet_weight n) ps ≡ length (frames_from n (map (λ p. p.item) ps))
+packets-weighed n [] = refl
+packets-weighed n (p ∷ ps) = omega (arith, sum_by-cons (packet_weight n) p ps, packets-weighed n ps, frames-cons n p.item (map (λ (x : LentPacket). x.item) ps))
+
+pub requests-weighed : (n : ℕ) (rs : List Request) → sum_by (request_weight n) rs ≡ length (frames_from n (flat_map (λ r. item_in r.outcome) rs))
+requests-weighed n [] = refl
+requests-weighed n (r ∷ rs) = omega (arith, sum_by-cons (request_weight n) r rs, requests-weighed n rs, frames-append n (item_in r.outcome) (flat_map (λ (x : Request). item_in x.outcome) rs))

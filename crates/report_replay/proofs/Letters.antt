@@ -1,7 +1,8 @@
--- The row of a message, and of a letter at an end of a channel.
-use Rattle.std.proofs.Common.{◌≡◌, ℕ, Bor, Bool, true, false, cond, List, [], ◌∷◌, ◌++◌, Option, Some, None, refl, sym, ap, ◌∙◌}
+-- The row of a message, of a letter at an end of a channel, and of a part.
+use Rattle.std.proofs.Common.{◌≡◌, ℕ, Bor, Bool, true, false, cond, List, [], ◌∷◌, ◌++◌, Option, Some, None, refl, sym, ap, subst, ◌∙◌}
 use Rattle.std.specs.List.{flat_map}
-use Rattle.mc_base.specs.Letter.{PlainLetter, plain_letter}
+use Rattle.mc_base.specs.Letter.{PlainLetter, Piece, piece_in, plain_letter, saying_by, saying_of}
+use Rattle.mc_base.specs.Reading.{brings, says_so}
 use Rattle.mc_base.specs.declared.channel.Kind.{Kind}
 use Rattle.mc_base.specs.declared.letter.Letter.{Letter}
 use Rattle.mc_base.specs.declared.letter.Letter.TheVariants as letter
@@ -9,9 +10,13 @@ use Rattle.mc_base.specs.declared.fate.Fate.{Fate}
 use Rattle.mc_base.specs.declared.fate.Fate.TheVariants as fate
 use Rattle.board_model.specs.Change.{item_handed, item_lost, item_queued}
 use Rattle.board_model.specs.ChannelEnds.{EndRow, end_row_of, end_rows, first_end_row, left_row}
-use Rattle.board_model.specs.State.{ChannelEnd, DomainState, Endpoint, Item, endpoint_of, one_waits}
-use Rattle.board_model.specs.TakenFrames.{Row, channel_rows, first_row, last_row, letter_rows, message_rows, row, rows_by}
-use Rattle.report_replay.specs.Ends.{acted, end_at, end_to, item_by, kept, left_by, letter_at, message_at, message_to, word_at}
+use Rattle.board_model.specs.Parts.{came_by, coming, part_of}
+use Rattle.board_model.specs.State.{ChannelEnd, DomainState, Endpoint, Item, endpoint_of, held_of, one_waits}
+use Rattle.board_model.specs.TakenFrames.{Row, channel_rows, first_row, last_row, letter_rows, message_rows, row, row_of, rows_by}
+use Rattle.report_replay.specs.Ends.{acted, came_over, end_at, end_to, item_by, kept, left_by, letter_at, message_at, message_to, word_at}
+use Rattle.report_replay.specs.Read.{came_read, row_read}
+use Rattle.report_replay.specs.Verdicts.{Follows, known_of}
+use Rattle.report_replay.specs.declared.verdict.Verdict.TheVariants as verdict
 use Rattle.report_replay.specs.declared.way.Way.{Way}
 use Rattle.report_replay.specs.declared.ends.Heard.{Heard}
 
@@ -73,12 +78,43 @@ module _ (s : DomainState) (w : Way) (l : PlainLetter) (x : Endpoint) (there : S
       ∙ ap (λ o. first_row (channel_rows s w.peer w.destination x o (item_by w l) l)) channel
       ∙ ap rows there
 
--- a letter that is no Connect and no message is one to an end
-pub to-an-end : (s : DomainState) (w : Way) (l : Letter) → ((channel : ℕ) (kind : Kind) → l ≡ letter.Connect channel kind → ⊥) → ((priority : ℕ) (bytes : Bor (List ℕ)) → l ≡ letter.Msg priority bytes → ⊥) → end_at s w (plain_letter l) ≡ letter_at s w (plain_letter l)
-to-an-end s w l no_connect no_message = go l (endpoint_of s w.destination) no_connect no_message
-  where
-    go : (l : Letter) (o : Option Endpoint) → ((channel : ℕ) (kind : Kind) → l ≡ letter.Connect channel kind → ⊥) → ((priority : ℕ) (bytes : Bor (List ℕ)) → l ≡ letter.Msg priority bytes → ⊥) → end_to s w o (plain_letter l) ≡ letter_rows s w.peer w.name w.source w.destination o (plain_letter l)
-    go (letter.Connect channel kind) o no_connect no_message = absurd (no_connect channel kind refl)
-    go (letter.Msg priority bytes) o no_connect no_message = absurd (no_message priority bytes refl)
-    go other None no_connect no_message = refl
-    go other (Some e) no_connect no_message = refl
+-- a letter that is no Connect, no message and no part is one to an end
+module _ (s : DomainState) (w : Way) where
+  abbrev pub Others : Letter → Type 0
+  Others l = ((channel : ℕ) (kind : Kind) → l ≡ letter.Connect channel kind → ⊥) × ((priority : ℕ) (bytes : Bor (List ℕ)) → l ≡ letter.Msg priority bytes → ⊥)
+      × ((priority total offset : ℕ) (bytes : Bor (List ℕ)) → l ≡ letter.MsgPart priority total offset bytes → ⊥) × ((channel total offset : ℕ) (bytes : Bor (List ℕ)) → l ≡ letter.PacketPart channel total offset bytes → ⊥)
+
+  pub is-whole : (l : Letter) → Others l → piece_in l ≡ None
+  is-whole (letter.MsgPart priority total offset bytes) others = absurd (others.2 priority total offset bytes refl)
+  is-whole (letter.PacketPart channel total offset bytes) others = absurd (others.3 channel total offset bytes refl)
+  is-whole other others = refl
+
+  pub to-an-end : (l : Letter) → Others l → end_at s w (plain_letter l) ≡ letter_at s w (plain_letter l)
+  to-an-end l others = go l (endpoint_of s w.destination) others
+    where
+      go : (l : Letter) (o : Option Endpoint) → Others l → end_to s w o (plain_letter l) ≡ letter_rows s w.peer (came_over w) w.source w.destination o (plain_letter l)
+      go (letter.Connect channel kind) o others = absurd (others.0 channel kind refl)
+      go (letter.Msg priority bytes) o others = absurd (others.1 priority bytes refl)
+      go (letter.MsgPart priority total offset bytes) o others = absurd (others.2 priority total offset bytes refl)
+      go other None others = refl
+      go other (Some e) others = refl
+
+-- ---- as they are read of a frame
+
+-- a whole letter says the same whether a part is open or not
+pub whole-row : (s : DomainState) (w : Way) (l : Letter) → piece_in l ≡ None → row_read s w.peer (Some w.name) (says_so w.source w.destination (saying_of l)) ≡ first_row (letter_at s w (plain_letter l))
+whole-row s w l whole = ap (λ o. row_read s w.peer (Some w.name) (says_so w.source w.destination (saying_by o (plain_letter l)))) whole
+
+pub whole-part : (s : DomainState) (w : Way) (l : Letter) → piece_in l ≡ None → (came_read s w.peer (Some w.name) (says_so w.source w.destination (saying_of l))).part ≡ None
+whole-part s w l whole = ap (λ o. (came_read s w.peer (Some w.name) (says_so w.source w.destination (saying_by o (plain_letter l)))).part) whole
+
+-- where no part is open, a part is stray
+module _ (s : DomainState) (peer name : ℕ) (none : part_of s peer ≡ None) (a b : ℕ) (q : Piece) where
+  pub stray-row : row_read s peer (Some name) (brings a b q) ≡ row true fate.Stray []
+  stray-row = ap (λ o. row_of s peer (came_by (coming o (brings a b q)) (held_of s peer) (Some name)) (coming o (brings a b q)).reading) none
+
+  pub stray-part : (came_read s peer (Some name) (brings a b q)).part ≡ None
+  stray-part = ap (λ o. (came_by (coming o (brings a b q)) (held_of s peer) (Some name)).part) none
+
+  pub strays : Follows peer (known_of s peer) (row_read s peer (Some name) (brings a b q)) (verdict.Nothing fate.Stray)
+  strays = subst (λ r. Follows peer (known_of s peer) r (verdict.Nothing fate.Stray)) (sym stray-row) (record { word = refl; changes = refl; room = tt })

@@ -2,6 +2,7 @@ pub mod Letters
 pub mod Taken
 pub mod Changed
 pub mod Counted
+pub mod FramesFor
 pub mod FullNames
 pub mod Removed
 -- Lemmas over plain lists.

@@ -8,9 +8,9 @@ use Rattle.mc_base.specs.FaultRow.{FaultRow, first, first_fault, widened}
 use Rattle.mc_base.specs.Frame.{destination_of, payload_of, source_of}
 use Rattle.mc_base.specs.Fault.{fault, faults}
 use Rattle.mc_base.specs.Letter.{Fields, PlainLetter}
-use Rattle.mc_base.specs.LetterFaults.{allows, fields_in, form_of, letter_faults}
+use Rattle.mc_base.specs.LetterFaults.{allows, fields_in, form_in, forms, part_forms, letter_faults}
 use Rattle.mc_base.specs.Announcement.{announcement_faults}
-use Rattle.mc_base.specs.Reading.{says, announced_in, letter_of, reading, reading_by}
+use Rattle.mc_base.specs.Reading.{says, brings, announced_in, letter_of, piece_of, reading, reading_by}
 use Rattle.mc_base.specs.declared.fault.Fault.{Fault}
 use Rattle.report_replay.specs.ShortLetters.{IsShort}
 use Rattle.mc_base.specs.declared.fault.Fault.TheVariants as fault_of
@@ -28,9 +28,9 @@ not_false true e = refl
 not_false false e = absurd cc
 
 -- a letter whose form allows its content
-module _ (f : Fields) (fits : allows (form_of f.kind) (λ form. form.content f) ≡ true) where
-  as_kind : (k : ℕ) → (f.kind == k) ≡ true → allows (form_of k) (λ form. form.content f) ≡ true
-  as_kind k is = subst (λ n. allows (form_of n) (λ form. form.content f) ≡ true) (eqb-true f.kind k is) fits
+module _ (f : Fields) (fits : allows (form_in f.kind forms) (λ form. form.content f) ≡ true) where
+  as_kind : (k : ℕ) → (f.kind == k) ≡ true → allows (form_in k forms) (λ form. form.content f) ≡ true
+  as_kind k is = subst (λ n. allows (form_in n forms) (λ form. form.content f) ≡ true) (eqb-true f.kind k is) fits
 
   pub short : IsShort (letter_of f)
   short =
@@ -52,9 +52,14 @@ short_read frame src dst l e = go (fault frame) refl e
     f = fields_in (payload_of frame)
 
     by : (b : Bool) → (destination_of frame == name_service_address) ≡ b → AllByRecursion (λ r. r.stands ≡ false) (cond b (widened fault_of.Ns (announcement_faults (payload_of frame))) (widened fault_of.Letter (letter_faults (payload_of frame))))
-        → cond b (announced_in (payload_of frame)) (says (source_of frame) (destination_of frame) (letter_of f)) ≡ says src dst l → IsShort l
+        → cond b (announced_in (payload_of frame)) (cond (f.version == 2) (brings (source_of frame) (destination_of frame) (piece_of f)) (says (source_of frame) (destination_of frame) (letter_of f))) ≡ says src dst l → IsShort l
     by true is none e = absurd cc
-    by false is none e = let same : letter_of f ≡ l = cc in subst IsShort same (short f (not_false _ none.1.1.1.1.1.1.0))
+    by false is none e = whole (f.version == 2) (not_false _ none.1.1.1.1.1.1.0) e
+      where
+        whole : (b : Bool) → allows (form_in f.kind (cond b part_forms forms)) (λ form. form.content f) ≡ true
+            → cond b (brings (source_of frame) (destination_of frame) (piece_of f)) (says (source_of frame) (destination_of frame) (letter_of f)) ≡ says src dst l → IsShort l
+        whole true fits e = absurd cc
+        whole false fits e = let same : letter_of f ≡ l = cc in subst IsShort same (short f fits)
 
     go : (o : Option Fault) → fault frame ≡ o → reading_by o frame ≡ says src dst l → IsShort l
     go (Some x) is e = absurd cc

@@ -9,6 +9,7 @@ use Rattle.mc_base.specs.declared.fate.Fate.TheVariants as fate
 use Rattle.board_model.specs.State.{ChannelEnd, DomainState, Endpoint, Item, endpoint_of, one_waits}
 use Rattle.board_model.specs.Change.{item_handed, item_queued}
 use Rattle.board_model.specs.ChannelEnds.{is_closed, same_kind, sends_to, hears_from}
+use Rattle.board_model.specs.Parts.{Came}
 use Rattle.board_model.specs.TakenFrames.{Row, acting, channel_rows, connect_rows, item_of, last_row, letter_rows, message_rows, row}
 use Rattle.report_replay.specs.declared.ends.Heard.{Heard}
 use Rattle.report_replay.specs.declared.ends.Heard.TheVariants as heard
@@ -45,15 +46,19 @@ word_of_data kind c = if not (same_kind c.kind kind) || c.far_closed then fate.S
 
 -- ---- the rows of a letter that goes this way
 
+-- one frame brought it
+abbrev pub came_over : Way → Came
+came_over w = record { names = w.name ∷ []; part = None }
+
 abbrev pub letter_at : DomainState → Way → PlainLetter → List Row
-letter_at s w l = letter_rows s w.peer w.name w.source w.destination (endpoint_of s w.destination) l
+letter_at s w l = letter_rows s w.peer (came_over w) w.source w.destination (endpoint_of s w.destination) l
 
 abbrev pub connect_at : DomainState → Way → ℕ → Kind → List Row
 connect_at s w number kind = connect_rows s w.peer w.source w.destination (endpoint_of s w.destination) number kind
 
 -- of one that brings an item, and of one to an end, whatever letter it is
 abbrev pub item_by : Way → PlainLetter → Item
-item_by w l = item_of w.peer w.name w.source l
+item_by w l = item_of w.peer (came_over w) w.source l
 
 abbrev pub message_to : DomainState → Way → Option Endpoint → PlainLetter → List Row
 message_to s w None l = last_row fate.NoEndpoint []

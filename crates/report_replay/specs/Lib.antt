@@ -1,4 +1,5 @@
 pub mod Ends
+pub mod Read
 pub mod Verdicts
 pub mod Replayed
 pub mod Effects

@@ -1,8 +1,7 @@
 -- The names of frames, in lists by the peers that the frames came from.
 -- Source: docs/PROFILE.md, "Lanes". A board has at most eight domains, so that a peer's number is below 8.
 use Rattle.std.specs.Prelude.{◌≡◌, ℕ, ◌<◌, List, [], ◌++◌, get_or}
-use Rattle.board_model.specs.Given.{frames_from}
-use Rattle.board_model.specs.State.{Item}
+use Rattle.board_model.specs.State.{Item, frames_from}
 
 -- the list for a peer
 abbrev pub names_for : ℕ → List (List ℕ) → List ℕ

@@ -1,25 +1,17 @@
 -- Words of the replay over the board's definitions.
 -- Source: docs/PROFILE.md, "A domain".
-use Rattle.std.specs.Prelude.{ℕ, ◌-◌, Bool, false, not, ◌&&◌, min, nat_le, nat_lt, length, Option, Some, is_some, if◌then◌else◌}
+use Rattle.std.specs.Prelude.{ℕ, ◌-◌, Bool, not, ◌&&◌, min, nat_le, nat_lt, length, is_some, if◌then◌else◌}
 use Rattle.mc_base.specs.declared.name.Local.{Local}
 use Rattle.mc_base.specs.declared.name.EndName.{EndName}
 use Rattle.mc_base.specs.NameMap.{Names, address_in, names_limit}
 use Rattle.mc_base.specs.declared.refusal.Refusal.{Refusal}
-use Rattle.board_model.specs.State.{DomainState, Peer, Request, Outcome, has_item, has_ended, held_from, is_from, waits_at}
+use Rattle.board_model.specs.State.{DomainState, Peer, Request, has_ended, held_from, waits_at}
 use Rattle.board_model.specs.Scenario.{Neighbour, neighbour}
 use Rattle.board_model.specs.Change.{done_with}
 
 -- a request that ends with a word where it waits at the endpoint of this name
 abbrev pub ended_at : Local → Refusal → Request → Request
 ended_at local word r = if waits_at local r then done_with (has_ended word) r else r
-
--- a request that is complete with an item from a peer
-abbrev pub from_in : ℕ → Option Outcome → Bool
-from_in peer (Some (has_item i)) = is_from peer i
-from_in peer other = false
-
-abbrev pub holds_from : ℕ → Request → Bool
-holds_from peer r = from_in peer r.outcome
 
 -- the greatest number of 64 bits, where counts stay
 abbrev pub greatest : ℕ

@@ -1,11 +1,12 @@
-ghost use Rattle.std.specs.Prelude.{◌≡◌, count_by, drop};
-ghost use Rattle.board_model.specs.State.{is_from};
+ghost use Rattle.std.specs.Prelude.{◌≡◌, drop, length, min};
+ghost use Rattle.board_model.specs.State.{frames_from};
 ghost use Rattle.board_model.specs.CallChanges.{best_item};
 ghost use Rattle.board_model.specs.Change.{with_queue};
 ghost use Rattle.board_model.specs.Choice.{best_place, least, oldest, without_best};
+ghost use Rattle.report_replay.specs.Replayed.{greatest};
 
 use crate::channel::ChannelEnd;
-use crate::item::Item;
+use crate::item::{Item, items_from};
 use crate::lists::take_out;
 use mc_base::Local;
 use std::marker::Model;
@@ -30,11 +31,11 @@ impl Model for Endpoint {
 }
 
 impl Endpoint {
-    /// How many of the items in the queue are from a peer.
+    /// How many frames from a peer brought the items in the queue, or the greatest `u64` where there are more.
     pub(crate) fn queued_from(&self, peer: u8) -> u64
-        ensures { result ≡ count_by (is_from peer) self.now.queue }
+        ensures { result ≡ min greatest (length (frames_from peer self.now.queue)) }
     {
-        count_from(&self.queue, peer)
+        items_from(&self.queue, peer)
     }
 
     /// Takes the oldest item of the best priority from the queue.
@@ -53,13 +54,6 @@ impl Endpoint {
     {
         take_out(&mut self.queue, Some(0))
     }
-}
-
-/// How many of these items are from a peer.
-fn count_from(items: &[Item], peer: u8) -> u64
-    ensures { result ≡ count_by (is_from peer) items.now }
-{
-    items.iter().filter(|i| i.peer == peer).count() as u64
 }
 
 /// The place of the oldest item of the best priority in a queue.

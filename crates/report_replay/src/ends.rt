@@ -49,7 +49,7 @@ impl ChannelEnd {
             Letter::RecvClose { .. } | Letter::SendClose { .. } if !self.far_closed => {
                 Heard::Acts(self.close_far())
             }
-            Letter::Packet { .. } => self.data(Kind::Packet),
+            Letter::Packet { .. } | Letter::PacketPart { .. } => self.data(Kind::Packet),
             Letter::Scalar { .. } => self.data(Kind::Scalar),
             _ => Heard::OutOfPlace,
         }
@@ -68,11 +68,12 @@ impl ChannelEnd {
             }
             Letter::SendOpen { channel }
             | Letter::Packet { channel, .. }
+            | Letter::PacketPart { channel, .. }
             | Letter::Scalar { channel, .. }
             | Letter::SendClose { channel } => {
                 self.side == Side::Receiver && self.number == channel && self.owner == peer
             }
-            Letter::Msg { .. } | Letter::Connect { .. } => false,
+            Letter::Msg { .. } | Letter::MsgPart { .. } | Letter::Connect { .. } => false,
         }
     }
 

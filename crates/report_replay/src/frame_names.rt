@@ -73,9 +73,7 @@ impl FrameNames {
         ensures { OnOk result (AddsItems items.now self.old self.new) }
     {
         for item in items {
-            if let Some(name) = item.name {
-                self.add(item.peer, name)?;
-            }
+            self.add(item.peer, item.name)?;
         }
         Ok(())
     }

@@ -3,9 +3,10 @@
 ghost use Rattle.std.specs.Prelude.{◌≡◌, ◌≤◌, ◌+◌, ◌++◌, [], drop, length, take};
 ghost use Rattle.mc_base.specs.Frame.{made};
 ghost use Rattle.mc_base.specs.Letter.{spelled, version_1};
+ghost use Rattle.report_replay.specs.Puts.{frames_for};
 
 use byteorder::{ByteOrder, LittleEndian};
-use mc_base::LETTER_HEADER_SIZE;
+use mc_base::{LETTER_HEADER_SIZE, PIECE_SIZE, SINGLE_SIZE};
 use rpmsg_frame::encode_into;
 
 /// The fields of a letter before its content, by the table of docs/FORMATS.md.
@@ -36,6 +37,17 @@ impl Way {
         let len = write_letter(head, content, &mut payload);
         let len = encode_into(self.source, self.destination, &payload[..len], out);
         (self.peer, len)
+    }
+}
+
+/// How many frames a message or a packet of so many bytes goes in: one where a frame carries all of them, and else one for each part.
+pub(crate) fn frames_needed(len: usize) -> u64
+    ensures { result ≡ frames_for len }
+{
+    if len <= SINGLE_SIZE {
+        1
+    } else {
+        len.div_ceil(PIECE_SIZE) as u64
     }
 }
 

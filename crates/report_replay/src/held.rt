@@ -1,12 +1,12 @@
 //! The buffers of the lane from a peer that are held: in queues, and lent.
 
-ghost use Rattle.std.specs.Prelude.{◌≡◌, ◌+◌, map, min, count_by};
+ghost use Rattle.std.specs.Prelude.{◌≡◌, ◌+◌, length, map, min};
 ghost use Rattle.std.specs.List.{flat_map};
-ghost use Rattle.board_model.specs.State.{is_from, item_in, queued_from, lent_from, held_from};
-ghost use Rattle.report_replay.specs.Replayed.{greatest, holds_from};
+ghost use Rattle.board_model.specs.State.{frames_from, item_in, queued_from, lent_from, held_from};
+ghost use Rattle.report_replay.specs.Replayed.{greatest};
 
 use crate::endpoint::Endpoint;
-use crate::request::{LentPacket, Outcome, Request};
+use crate::request::{LentPacket, Request};
 use crate::state::State;
 
 impl State {
@@ -32,9 +32,9 @@ impl State {
     }
 }
 
-/// How many items from a peer stand in the queues of these endpoints.
+/// How many frames from a peer brought the items in the queues of these endpoints.
 fn queued_in(endpoints: &[Endpoint], peer: u8) -> u64
-    ensures { result ≡ min greatest (count_by (is_from peer) (flat_map (λ e. e.queue) endpoints.now)) }
+    ensures { result ≡ min greatest (length (frames_from peer (flat_map (λ e. e.queue) endpoints.now))) }
 {
     let mut count: u64 = 0;
     for endpoint in endpoints {
@@ -43,16 +43,24 @@ fn queued_in(endpoints: &[Endpoint], peer: u8) -> u64
     count
 }
 
-/// How many of these packets are from a peer.
+/// How many frames from a peer brought these packets.
 fn packets_in(packets: &[LentPacket], peer: u8) -> u64
-    ensures { result ≡ count_by (λ p. is_from peer p.item) packets.now }
+    ensures { result ≡ min greatest (length (frames_from peer (map (λ p. p.item) packets.now))) }
 {
-    packets.iter().filter(|p| p.item.peer == peer).count() as u64
+    let mut count: u64 = 0;
+    for packet in packets {
+        count = count.saturating_add(packet.frames_from(peer));
+    }
+    count
 }
 
-/// How many of these requests hold an item from a peer.
+/// How many frames from a peer brought the items with which these requests are complete.
 fn held_in(requests: &[Request], peer: u8) -> u64
-    ensures { result ≡ count_by (holds_from peer) requests.now }
+    ensures { result ≡ min greatest (length (frames_from peer (flat_map (λ r. item_in r.outcome) requests.now))) }
 {
-    requests.iter().filter(|r| r.holds_from(peer)).count() as u64
+    let mut count: u64 = 0;
+    for request in requests {
+        count = count.saturating_add(request.frames_from(peer));
+    }
+    count
 }

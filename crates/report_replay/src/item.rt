@@ -1,9 +1,11 @@
-ghost use Rattle.std.specs.Prelude.{◌≡◌, ◌≤◌, length};
+ghost use Rattle.std.specs.Prelude.{◌≡◌, ◌≤◌, ◌∷◌, [], length, min};
+ghost use Rattle.board_model.specs.State.{frames_from};
+ghost use Rattle.report_replay.specs.Replayed.{greatest};
 
 use board_model::Seq;
 use std::marker::Model;
 
-/// A message, packet or scalar that is held, of at most 488 bytes. The frame that brought it may have a name, which only `FrameNames` depend on.
+/// A message, packet or scalar that is held, of at most 488 bytes. The frame that brought it has a name, which only `FrameNames` depend on.
 #[derive(Debug, Drop)]
 pub struct Item {
     pub(crate) peer: u8,
@@ -11,16 +13,16 @@ pub struct Item {
     pub(crate) priority: u8,
     pub(crate) channel: Option<u32>,
     pub(crate) content: Seq<u8>,
-    pub(crate) name: Option<u32>,
+    pub(crate) name: u32,
 }
 
 impl Model for Item {
-    ghost use Rattle.std.specs.Prelude.{◌≤◌, length, option_to_list};
+    ghost use Rattle.std.specs.Prelude.{◌≤◌, ◌∷◌, [], length};
     ghost use Rattle.board_model.specs.State.{Item as Plain};
 
     ghost Value = { Plain };
 
-    ghost view = { λ i. record { peer = i.peer; source = i.source; priority = i.priority; channel = i.channel; content = i.content; frames = option_to_list i.name } };
+    ghost view = { λ i. record { peer = i.peer; source = i.source; priority = i.priority; channel = i.channel; content = i.content; frames = i.name ∷ [] } };
 
     ghost invariant = { λ i. length i.content ≤ 488 };
 }
@@ -33,4 +35,22 @@ impl Item {
     {
         self.content.as_slice()
     }
+
+    /// How many frames from a peer brought it.
+    pub(crate) fn frames_from(&self, peer: u8) -> u64
+        ensures { result ≡ length (frames_from peer (self.now ∷ [])) }
+    {
+        if self.peer == peer { 1 } else { 0 }
+    }
+}
+
+/// How many frames from a peer brought these items, or the greatest `u64` where there are more.
+pub(crate) fn items_from(items: &[Item], peer: u8) -> u64
+    ensures { result ≡ min greatest (length (frames_from peer items.now)) }
+{
+    let mut count: u64 = 0;
+    for item in items {
+        count = count.saturating_add(item.frames_from(peer));
+    }
+    count
 }

@@ -38,13 +38,13 @@ pub struct Peer {
 }
 
 impl Model for Peer {
-    ghost use Rattle.std.specs.Prelude.{map};
+    ghost use Rattle.std.specs.Prelude.{map, None};
     ghost use Rattle.board_model.specs.State.{Peer as Plain};
     ghost use Rattle.report_replay.specs.Views.{announcement_of, reply_of};
 
     ghost Value = { Plain };
 
-    ghost view = { λ p. record { number = p.number; size = p.size; free = p.free; shown = p.shown; announcements = map announcement_of p.announcements.items; replies = map reply_of p.replies.items; known = p.known } };
+    ghost view = { λ p. record { number = p.number; size = p.size; free = p.free; shown = p.shown; announcements = map announcement_of p.announcements.items; replies = map reply_of p.replies.items; known = p.known; part = None } };
 }
 
 impl Peer {

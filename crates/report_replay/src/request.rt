@@ -1,7 +1,7 @@
-ghost use Rattle.std.specs.Prelude.{◌≡◌, ◌&&◌, is_none};
-ghost use Rattle.board_model.specs.State.{has_address, waits_at as waiting_at};
+ghost use Rattle.std.specs.Prelude.{◌≡◌, ◌&&◌, ◌∷◌, [], is_none, length};
+ghost use Rattle.board_model.specs.State.{frames_from, has_address, item_in, waits_at as waiting_at};
 ghost use Rattle.board_model.specs.Change.{all_done, asks_for, done_with, connects_on as connecting_on};
-ghost use Rattle.report_replay.specs.Replayed.{ended_at, holds_from};
+ghost use Rattle.report_replay.specs.Replayed.{ended_at};
 ghost use Rattle.report_replay.specs.Views.{outcome_of, settling};
 
 use crate::item::Item;
@@ -64,14 +64,23 @@ impl Model for LentPacket {
     ghost view = { λ p. record { serial = p.serial; item = p.item } };
 }
 
+impl LentPacket {
+    /// How many frames from a peer brought it.
+    pub(crate) fn frames_from(&self, peer: u8) -> u64
+        ensures { result ≡ length (frames_from peer (self.now.item ∷ [])) }
+    {
+        self.item.frames_from(peer)
+    }
+}
+
 impl Request {
-    /// Whether it is complete with an item from a peer.
-    pub(crate) fn holds_from(&self, peer: u8) -> bool
-        ensures { result ≡ holds_from peer self.now }
+    /// How many frames from a peer brought the item with which it is complete, if it is.
+    pub(crate) fn frames_from(&self, peer: u8) -> u64
+        ensures { result ≡ length (frames_from peer (item_in self.now.outcome)) }
     {
         match &self.outcome {
-            Some(Outcome::Item(item)) => item.peer == peer,
-            _ => false,
+            Some(Outcome::Item(item)) => item.frames_from(peer),
+            _ => 0,
         }
     }
 

@@ -26,11 +26,12 @@ pub struct State {
 }
 
 impl Model for State {
+    ghost use Rattle.std.specs.Prelude.{[]};
     ghost use Rattle.board_model.specs.State.{DomainState};
 
     ghost Value = { DomainState };
 
-    ghost view = { λ s. record { number = s.number; nodes = s.nodes; endpoints = s.endpoints.items; ended = s.ended.items; peers = s.peers.items; requests = s.requests.items; lent = s.lent.items; endpoints_given = s.endpoints_given; channels_given = s.channels_given; requests_given = s.requests_given; packets_lent = s.packets_lent } };
+    ghost view = { λ s. record { number = s.number; nodes = s.nodes; endpoints = s.endpoints.items; ended = s.ended.items; peers = s.peers.items; requests = s.requests.items; lent = s.lent.items; held = []; endpoints_given = s.endpoints_given; channels_given = s.channels_given; requests_given = s.requests_given; packets_lent = s.packets_lent } };
 }
 
 impl State {

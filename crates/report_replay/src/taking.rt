@@ -1,10 +1,11 @@
 //! A frame that is taken: judged by the state before, and then done.
 
-ghost use Rattle.std.specs.Prelude.{◌≡◌, IfOk, OnOk};
-ghost use Rattle.mc_base.specs.Reading.{reading};
+ghost use Rattle.std.specs.Prelude.{◌≡◌, ◌∷◌, [], IfOk, OnOk};
 ghost use Rattle.board_model.specs.Change.{changed_all};
 ghost use Rattle.board_model.specs.Deeds.{after_deed, takes};
-ghost use Rattle.board_model.specs.TakenFrames.{row_of};
+ghost use Rattle.board_model.specs.Parts.{named_so};
+ghost use Rattle.board_model.specs.Returns.{given_at_once, given_by_frame};
+ghost use Rattle.board_model.specs.TakenFrames.{row_from};
 ghost use Rattle.report_replay.specs.Verdicts.{HasRoom, changes_of, known_of};
 
 use crate::state::State;
@@ -13,8 +14,8 @@ use mc_base::{Fate, NoMemory, Refusal};
 use std::alloc::Global;
 
 impl State {
-    /// Takes a frame that was shown from a peer, does what the definitions say, and returns its word. `name` is what the item is
-    /// named by, if a message, packet or scalar stays.
+    /// Takes a frame that was shown from a peer, does what the definitions say, and returns its word. `name` is what the frame
+    /// is named by, if a message, packet or scalar stays. No other frame's buffer is given back.
     ///
     /// # Errors
     ///
@@ -26,8 +27,9 @@ impl State {
         name: Option<u32>,
         frame: &[u8],
     ) -> Result<Fate, NoMemory>
-        ensures word { IfOk result (λ word. word ≡ (row_of self.old peer name (reading frame.now)).word) }
+        ensures word { IfOk result (λ word. word ≡ (row_from self.old peer name frame.now).word) }
         ensures state { IfOk result (λ word. self.new ≡ after_deed self.old (takes peer name frame.now word)) }
+        ensures gives { IfOk result (λ word. given_by_frame self.old peer name frame.now word ≡ given_at_once word (named_so name ∷ [])) }
     {
         let verdict = self.judge(alloc, peer, name, frame)?;
         let word = verdict.word();

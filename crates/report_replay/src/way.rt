@@ -3,7 +3,7 @@ ghost use Rattle.byteorder.specs.Endian.{little_bytes};
 ghost use Rattle.mc_base.specs.Letter.{bytes_of_bits, plain_letter};
 ghost use Rattle.board_model.specs.ChannelEnds.{accepted_end};
 ghost use Rattle.board_model.specs.TakenFrames.{channel_item, message_item, reply_to};
-ghost use Rattle.report_replay.specs.Ends.{item_by};
+ghost use Rattle.report_replay.specs.Ends.{came_over, item_by};
 ghost use Rattle.report_replay.specs.ShortLetters.{IsShort};
 ghost use Rattle.report_replay.specs.Views.{end_of, reply_of};
 
@@ -14,11 +14,11 @@ use board_model::Seq;
 use mc_base::{Bits, Kind, Letter, NoMemory, Reason, Side};
 use std::alloc::Global;
 
-/// Where a letter comes from and where it goes, and what its frame is named by, if it has a name.
+/// Where a letter comes from and where it goes, and what its frame is named by.
 #[derive(Clone, Copy)]
 pub(crate) struct Way {
     pub(crate) peer: u8,
-    pub(crate) name: Option<u32>,
+    pub(crate) name: u32,
     pub(crate) source: u32,
     pub(crate) destination: u32,
 }
@@ -59,10 +59,15 @@ impl Way {
         ensures { IfOk result (λ i. i ≡ item_by self.now (plain_letter letter.now)) }
     {
         match *letter {
-            Letter::Msg { priority, bytes } => {
-                Ok(self.message(priority.number(), copied(alloc, bytes)?))
+            Letter::Msg { priority, bytes }
+            | Letter::MsgPart {
+                priority,
+                bytes,
+                ..
+            } => { Ok(self.message(priority.number(), copied(alloc, bytes)?)) }
+            Letter::Packet { channel, bytes } | Letter::PacketPart { channel, bytes, .. } => {
+                Ok(self.data(channel, copied(alloc, bytes)?))
             }
-            Letter::Packet { channel, bytes } => Ok(self.data(channel, copied(alloc, bytes)?)),
             Letter::Scalar {
                 channel,
                 bits,
@@ -81,7 +86,7 @@ impl Way {
     /// A message as an item.
     fn message(&self, priority: u8, content: Seq<u8>) -> Item
         requires { length content ≤ 488 }
-        ensures { result ≡ message_item self.now.peer self.now.name self.now.source priority content }
+        ensures { result ≡ message_item self.now.peer (came_over self.now) self.now.source priority content }
     {
         Item {
             peer: self.peer,
@@ -96,7 +101,7 @@ impl Way {
     /// A packet or a scalar of a channel as an item.
     fn data(&self, channel: u32, content: Seq<u8>) -> Item
         requires { length content ≤ 488 }
-        ensures { result ≡ channel_item self.now.peer self.now.name self.now.source channel content }
+        ensures { result ≡ channel_item self.now.peer (came_over self.now) self.now.source channel content }
     {
         Item {
             peer: self.peer,

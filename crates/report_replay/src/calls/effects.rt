@@ -4,7 +4,7 @@ ghost use Rattle.std.specs.Prelude.{◌≡◌, ◌<◌, ◌+◌, [], ◌∷◌, 
 ghost use Rattle.mc_base.specs.Limits.{creation_limit};
 ghost use Rattle.mc_base.specs.declared.channel.Side.TheVariants.{Sender, Receiver};
 ghost use Rattle.board_model.specs.State.{live_at, message_at, packet_at, has_item};
-ghost use Rattle.board_model.specs.Change.{best_gone, buffer_used, changed_all, channel_set, oldest_gone, request_added};
+ghost use Rattle.board_model.specs.Change.{best_gone, buffers_used, changed_all, channel_set, oldest_gone, request_added};
 ghost use Rattle.board_model.specs.CallChanges.{at_end, at_live, best_item, closing, lending, new_sender, success_changes, tested};
 ghost use Rattle.board_model.specs.ChannelEnds.{closed_end, opened_end};
 ghost use Rattle.board_model.specs.Choice.{oldest};
@@ -16,6 +16,7 @@ ghost use Rattle.report_replay.specs.Views.{end_of};
 
 use crate::calls::call::DomainCall;
 use crate::channel::{ChannelEnd, Stage};
+use crate::frames::frames_needed;
 use crate::peer::Announcement;
 use crate::request::{Asked, Outcome};
 use crate::state::State;
@@ -62,12 +63,15 @@ impl State {
     {
         let here = call.here(node);
         match *call {
-            DomainCall::Send { to, .. } => self.use_buffer(to.domain),
+            DomainCall::Send { to, bytes, .. } => {
+                self.use_buffers(to.domain, frames_needed(bytes.len()))
+            }
             DomainCall::Receive { .. } => self.receive(here),
             DomainCall::Open { .. } => self.open_channel(here),
-            DomainCall::SendPacket { .. } | DomainCall::SendScalar { .. } => {
-                self.send_over_channel(here)
+            DomainCall::SendPacket { bytes, .. } => {
+                self.send_over_channel(here, frames_needed(bytes.len()))
             }
+            DomainCall::SendScalar { .. } => self.send_over_channel(here, 1),
             DomainCall::ReceiveScalar { .. } => self.receive_scalar(here),
             DomainCall::Close {
                 side: Side::Sender,
@@ -83,7 +87,7 @@ impl State {
             DomainCall::Cancel { request } => {
                 let _ = self.remove_request(request);
             }
-            DomainCall::Raw { to, .. } => self.use_buffer(to),
+            DomainCall::Raw { to, .. } => self.use_buffers(to, 1),
             _ => {}
         }
     }
@@ -210,14 +214,15 @@ impl State {
         }
     }
 
-    /// Uses a buffer of the lane over which the channel of an endpoint goes.
-    fn send_over_channel(&mut self, at: Local)
-        ensures { self.new ≡ changed_all self.old (at_end (live_at self.old at) (λ e c. buffer_used c.peer ∷ [])) }
+    /// Uses so many buffers of the lane over which the channel of an endpoint goes.
+    fn send_over_channel(&mut self, at: Local, count: u64)
+        ensures { self.new ≡ changed_all self.old (at_end (live_at self.old at) (λ e c. buffers_used c.peer count ∷ [])) }
     {
         if let Some(end) = self.channel_at(at) {
-            self.use_buffer(end.peer);
+            self.use_buffers(end.peer, count);
         }
     }
+
     /// Connects an endpoint to a named one: adds a request for the answer, and uses the next number of a channel.
     fn connect(&mut self, node: u8, port: u16, to: EndName, kind: Kind) -> Result<(), NoMemory>
         requires { self.old.channels_given < 65535 }
@@ -229,7 +234,7 @@ impl State {
         let address = endpoint.address;
         let end = self.connecting_end(to, kind);
         let number = end.number;
-        self.use_buffer(to.domain);
+        self.use_buffers(to.domain, 1);
         self.set_channel(address, Some(end));
         self.add_request(Asked::Channel(number), None)?;
         self.give_channel();
@@ -257,7 +262,7 @@ impl State {
 
     /// Opens the end of a channel at an endpoint.
     fn open_channel(&mut self, at: Local)
-        ensures { self.new ≡ changed_all self.old (at_end (live_at self.old at) (λ e c. buffer_used c.peer ∷ channel_set e.address (Some (opened_end c)) ∷ [])) }
+        ensures { self.new ≡ changed_all self.old (at_end (live_at self.old at) (λ e c. buffers_used c.peer 1 ∷ channel_set e.address (Some (opened_end c)) ∷ [])) }
     {
         let Some(endpoint) = self.live_at(at) else {
             return;
@@ -266,7 +271,7 @@ impl State {
         let Some(end) = endpoint.channel else {
             return;
         };
-        self.use_buffer(end.peer);
+        self.use_buffers(end.peer, 1);
         self.set_channel(address, Some(end.opened()));
     }
 
@@ -281,7 +286,7 @@ impl State {
         let Some(end) = endpoint.channel else {
             return;
         };
-        self.use_buffer(end.peer);
+        self.use_buffers(end.peer, 1);
         self.set_channel(address, end.closed());
     }
 
@@ -296,7 +301,7 @@ impl State {
         let Some(end) = endpoint.channel else {
             return;
         };
-        self.use_buffer(end.peer);
+        self.use_buffers(end.peer, 1);
         self.end_waiting(address, Refusal::ChanClosed);
         self.drop_queue(address, end.closed());
     }

@@ -1,10 +1,11 @@
 //! The frame that a call puts where it is not refused.
 
-ghost use Rattle.std.specs.Prelude.{◌≡◌, ◌≤◌, ◌<◌, ◌*◌, ◌^◌, ◌++◌, IfSome, None, ℕ, [], drop, map, option_map, option_to_list, take, unwrap_or};
+ghost use Rattle.std.specs.Prelude.{◌≡◌, ◌≤◌, ◌<◌, ◌*◌, ◌^◌, ◌++◌, ◌∷◌, IfSome, None, ℕ, [], drop, option_map, option_to_list, take, unwrap_or};
+ghost use Rattle.std.specs.List.{flat_map};
 ghost use Rattle.byteorder.specs.Endian.{little_bytes};
 ghost use Rattle.mc_base.specs.Letter.{PlainLetter, bytes_of_bits, connect, fields_of, scalar, version_1};
 ghost use Rattle.board_model.specs.State.{address_at};
-ghost use Rattle.board_model.specs.Answer.{address_of, closing_letter, opening_letter, over_end, post, put_of, refusal, success_posts, success_puts};
+ghost use Rattle.board_model.specs.Answer.{address_of, closing_letter, opening_letter, over_end, post, puts_of, refusal, success_posts, success_puts};
 ghost use Rattle.report_replay.specs.PlainCalls.{plain_call};
 ghost use Rattle.report_replay.specs.Puts.{FitsFrame, fields_by, over_way, way};
 
@@ -45,7 +46,7 @@ impl State {
         requires succeeds { refusal self.now node (plain_call call.now) ≡ None }
         requires fits { FitsFrame (plain_call call.now) }
         ensures fits { IfSome result (λ put. put.1 ≤ 512) }
-        ensures frame { option_to_list (option_map (λ put. (put.0, take put.1 out.new)) result) ≡ map put_of (success_posts self.now node (plain_call call.now)) }
+        ensures frame { option_to_list (option_map (λ put. (put.0, take put.1 out.new)) result) ≡ flat_map puts_of (success_posts self.now node (plain_call call.now)) }
     {
         let here = call.here(node);
         match *call {
@@ -157,7 +158,7 @@ fn closing_head(side: Side, channel: u32) -> Head
 fn put_scalar(way: Way, channel: u32, bits: Bits, value: u64, out: &mut [u8; 512]) -> (u8, usize)
     requires { value < 2 ^ (8 * bytes_of_bits bits) }
     ensures fits { result.1 ≤ 512 }
-    ensures frame { (result.0, take result.1 out.new) ≡ put_of (post way.peer way.source way.destination (scalar channel bits value)) }
+    ensures frame { (result.0, take result.1 out.new) ∷ [] ≡ puts_of (post way.peer way.source way.destination (scalar channel bits value)) }
 {
     let mut content = [0; 8];
     let width = scalar_into(bits, value, &mut content);

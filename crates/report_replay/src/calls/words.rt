@@ -1,16 +1,18 @@
 //! The word by which a call is refused.
 
-ghost use Rattle.std.specs.Prelude.{◌≡◌, length, map, nat_lt, option_map, option_to_list};
+ghost use Rattle.std.specs.Prelude.{◌≡◌, length, nat_lt, option_map};
 ghost use Rattle.mc_base.specs.Letter.{bytes_of_bits};
 ghost use Rattle.mc_base.specs.Limits.{item_size};
 ghost use Rattle.board_model.specs.State.{queue_at};
 ghost use Rattle.board_model.specs.Answer.{channel_at, content_size, end_call, holds as condition_of, holds_at_end, is_complete, is_of_other_size, is_sound_raw, lacks_buffers, lacks_complete, lacks_end, lacks_lane, lacks_request, named, packet_named, refusal as first_word, request_named, success_puts, words_of};
 ghost use Rattle.report_replay.specs.PlainCalls.{plain_call, plain_end_call};
+ghost use Rattle.report_replay.specs.Puts.{headed};
 ghost use Rattle.report_replay.specs.Views.{end_of};
 
 use crate::calls::call::DomainCall;
 use crate::calls::ends::EndCall;
 use crate::channel::ChannelEnd;
+use crate::frames::frames_needed;
 use crate::request::{LentPacket, Request};
 use crate::state::State;
 use mc_base::{
@@ -274,27 +276,33 @@ impl State {
         }
     }
 
-    /// The peer to which success puts a frame, if it puts one.
-    fn peer_of_success(&self, node: u8, call: &DomainCall<'_>) -> Option<u8>
-        ensures { option_to_list result ≡ map (λ p. p.0) (success_puts self.now node (plain_call call.now)) }
+    #[tactic(auto, using(crate::proofs::FramesFor::packet_headed))]
+    /// The peer to which success puts frames, and how many, if it puts any.
+    fn puts_of_success(&self, node: u8, call: &DomainCall<'_>) -> Option<(u8, u64)>
+        ensures { result ≡ headed (success_puts self.now node (plain_call call.now)) }
     {
         match call {
-            DomainCall::Send { to, .. } | DomainCall::Connect { to, .. } => Some(to.domain),
-            DomainCall::Open { .. }
-            | DomainCall::SendPacket { .. }
-            | DomainCall::SendScalar { .. }
-            | DomainCall::Close { .. } => Some(self.channel_at(call.here(node))?.peer),
-            DomainCall::Raw { to, .. } => Some(*to),
+            DomainCall::Send { to, bytes, .. } => Some((to.domain, frames_needed(bytes.len()))),
+            DomainCall::Connect { to, .. } => Some((to.domain, 1)),
+            DomainCall::SendPacket { bytes, .. } => {
+                let end = self.channel_at(call.here(node))?;
+                Some((end.peer, frames_needed(bytes.len())))
+            }
+            DomainCall::Open { .. } | DomainCall::SendScalar { .. } | DomainCall::Close { .. } => {
+                let end = self.channel_at(call.here(node))?;
+                Some((end.peer, 1))
+            }
+            DomainCall::Raw { to, .. } => Some((*to, 1)),
             _ => None,
         }
     }
 
-    /// Whether no buffer of the lane is free for the frame of success.
+    /// Whether the lane has fewer free buffers than success would put frames.
     fn lacks_buffers(&self, node: u8, call: &DomainCall<'_>) -> bool
         ensures { result ≡ lacks_buffers self.now (success_puts self.now node (plain_call call.now)) }
     {
-        match self.peer_of_success(node, call) {
-            Some(peer) => self.free_to(peer) < 1,
+        match self.puts_of_success(node, call) {
+            Some((peer, count)) => u64::from(self.free_to(peer)) < count,
             None => false,
         }
     }

@@ -1,10 +1,10 @@
 //! Changes of the peers: their lanes, what is owed to them, and the names that are known of them.
 
-ghost use Rattle.std.specs.Prelude.{◌≡◌, ◌<◌, ◌+◌, ◌^◌, false, filter, map, OnOk};
+ghost use Rattle.std.specs.Prelude.{◌≡◌, ◌<◌, ◌+◌, ◌^◌, [], None, false, filter, map, OnOk};
 ghost use Rattle.mc_base.specs.NameMap.{learned, forgotten};
 ghost use Rattle.board_model.specs.State.{free_to, peer_at, is_owed_end};
 ghost use Rattle.board_model.specs.TakenFrames.{names_of};
-ghost use Rattle.board_model.specs.Change.{changed, also_owed, end_announced, reply_owed, owed_put, buffers_back, frames_shown, frame_taken, names_known, buffer_used};
+ghost use Rattle.board_model.specs.Change.{changed, also_owed, end_announced, reply_owed, owed_put, buffers_back, frames_shown, frame_taken, names_known, buffers_used};
 ghost use Rattle.report_replay.specs.Replayed.{lacks_room};
 ghost use Rattle.report_replay.specs.Views.{announcement_of, reply_of};
 
@@ -64,14 +64,18 @@ impl State {
         }
     }
 
-    /// One of the shown frames of a peer is taken.
+    /// One of the shown frames of a peer is taken, and no part is open after it.
     pub(crate) fn take_shown(&mut self, peer: u8)
-        ensures { self.new ≡ changed self.old (frame_taken peer) }
+        ensures state { self.new ≡ changed self.old (frame_taken peer None []) }
+        ensures held { self.old.held ≡ [] }
     {
-        if let Some(place) = self.place_of_peer(peer) {
-            let peer = &mut self.peers[place];
-            peer.shown = peer.shown.saturating_sub(1);
-        }
+        let place = self.place_of_peer(peer);
+        let peers = &mut self.peers;
+        let Some(place) = place else {
+            return;
+        };
+        let peer = &mut peers[place];
+        peer.shown = peer.shown.saturating_sub(1);
     }
 
     /// Learns the address of a name of a peer. The name is known, or fewer than 64 others are.
@@ -93,13 +97,13 @@ impl State {
         }
     }
 
-    /// One buffer of the lane to a peer is used.
-    pub(crate) fn use_buffer(&mut self, peer: u8)
-        ensures { self.new ≡ changed self.old (buffer_used peer) }
+    /// So many buffers of the lane to a peer are used.
+    pub(crate) fn use_buffers(&mut self, peer: u8, count: u64)
+        ensures { self.new ≡ changed self.old (buffers_used peer count) }
     {
         if let Some(place) = self.place_of_peer(peer) {
             let peer = &mut self.peers[place];
-            peer.free = peer.free.saturating_sub(1);
+            peer.free = u64::from(peer.free).saturating_sub(count) as u32;
         }
     }
 }

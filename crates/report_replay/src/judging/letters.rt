@@ -108,6 +108,8 @@ fn act_at(at: u32, left: Option<ChannelEnd>, letter: &Letter<'_>) -> Verdict
         | Letter::SendOpen { .. }
         | Letter::Packet { .. }
         | Letter::Scalar { .. }
-        | Letter::RecvClose { .. } => Verdict::Set { at, left },
+        | Letter::RecvClose { .. }
+        | Letter::MsgPart { .. }
+        | Letter::PacketPart { .. } => Verdict::Set { at, left },
     }
 }

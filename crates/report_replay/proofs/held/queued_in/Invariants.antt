@@ -1,13 +1,11 @@
 use Rattle.std.proofs.Common.{◌≡◌, ◌≤◌, ◌+◌, min, drop}
-use Rattle.std.specs.Prelude.{count_by}
-use Rattle.std.specs.List.{flat_map}
-use Rattle.board_model.specs.State.{is_from}
+use Rattle.std.specs.Prelude.{sum_by}
 use Rattle.report_replay.specs.Replayed.{greatest}
+use Rattle.report_replay.proofs.Counted.{queue_weight}
 use Rattle.report_replay.proofs.held.queued_in.Given as goal
 
 abbrev pub invariant-loop-endpoint : goal.invariant-loop-endpoint
 invariant-loop-endpoint l = record {
-  all : min greatest (l.count + count_by (is_from l.peer) (flat_map (λ e. e.queue) (drop l.endpoint-index l.endpoints)))
-      ≡ min greatest (count_by (is_from l.peer) (flat_map (λ e. e.queue) l.endpoints));
+  all : min greatest (l.count + sum_by (queue_weight l.peer) (drop l.endpoint-index l.endpoints)) ≡ min greatest (sum_by (queue_weight l.peer) l.endpoints);
   small : l.count ≤ greatest;
 }
