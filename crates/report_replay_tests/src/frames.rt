@@ -17,6 +17,23 @@ static MESSAGE: [u8; 26] = [
     6, 4, 0, 0, 0, 4, 0, 0, 0, 0, 0, 0, 10, 0, 0, 0, 0x4d, 1, 1, 2, 0, 0, 0, 0, 0xab, 0xcd,
 ];
 
+/// The first two bytes of a message of four bytes from address 1030 to address 1024, and the other two.
+static FIRST_PART: [u8; 30] = [
+    6, 4, 0, 0, 0, 4, 0, 0, 0, 0, 0, 0, 14, 0, 0, 0, 0x4d, 2, 1, 2, 0, 0, 0, 0, 4, 0, 0, 0, 0xab,
+    0xcd,
+];
+
+static SECOND_PART: [u8; 30] = [
+    6, 4, 0, 0, 0, 4, 0, 0, 0, 0, 0, 0, 14, 0, 0, 0, 0x4d, 2, 1, 2, 0, 0, 0, 0, 4, 0, 2, 0, 0xef,
+    0x01,
+];
+
+/// A part of a packet of two bytes that is all of it, on channel 3.
+static WHOLE_PART: [u8; 30] = [
+    6, 4, 0, 0, 0, 4, 0, 0, 0, 0, 0, 0, 14, 0, 0, 0, 0x4d, 2, 7, 0, 3, 0, 0, 0, 2, 0, 0, 0, 0xab,
+    0xcd,
+];
+
 /// Domain 0 with one node, whose lanes to itself have two buffers, and to domain 1 four.
 fn opened(alloc: Global) -> Result<State, NoMemory> {
     State::open(alloc, 0, 1, &[(0, 2), (1, 4)])
@@ -44,6 +61,19 @@ fn frames_have_the_words_that_the_state_has_for_them(rt: HostRuntime) -> Result<
     assert!(rt; state.take(alloc, 1, None, &MESSAGE)? == Fate::NoEndpoint);
     assert!(rt; state.take(alloc, 1, None, &ANNOUNCED)? == Fate::Acted);
     assert!(rt; state.take(alloc, 0, None, &ANNOUNCED)? == Fate::ForeignName);
+    Ok(())
+}
+
+#[test]
+fn parts_are_stray(rt: HostRuntime) -> Result<(), Fail> {
+    let alloc = rt.alloc();
+    let mut state = opened(alloc)?;
+    assert!(rt; state.look_ahead(1, 4) == 4);
+    assert!(rt; state.take(alloc, 1, None, &FIRST_PART)? == Fate::Stray);
+    assert!(rt; state.take(alloc, 1, None, &SECOND_PART)? == Fate::Stray);
+    assert!(rt; state.take(alloc, 1, None, &WHOLE_PART)? == Fate::Stray);
+    assert!(rt; state.take(alloc, 1, None, &MESSAGE)? == Fate::NoEndpoint);
+    assert!(rt; state.held_from(1) == 0);
     Ok(())
 }
 
