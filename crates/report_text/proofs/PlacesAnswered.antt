@@ -11,7 +11,7 @@ use Rattle.board_model.specs.Traffic.{taken_from, takes_in, takes_from}
 use Rattle.board_model.specs.Deeds.{Deed, after_deeds, along}
 use Rattle.board_model.specs.Turn.{visit_deeds}
 use Rattle.board_model.specs.JournalDeeds.{names_from, named_deeds, call_deeds, deeds_along}
-use Rattle.board_model.specs.Given.{names_given}
+use Rattle.board_model.specs.Returns.{names_given}
 use Rattle.board_model.proofs.DeedJoins.{along-join}
 use Rattle.report_text.specs.RightRuns.{answered, with_answers}
 

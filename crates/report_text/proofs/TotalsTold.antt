@@ -7,11 +7,11 @@ use Rattle.board_model.specs.declared.scenario.LinkLine.{LinkLine}
 use Rattle.board_model.specs.declared.scenario.Scenario.{Scenario}
 use Rattle.board_model.specs.Scenario.{script, Lane, lanes}
 use Rattle.board_model.specs.LinkedBoard.{IsLinkedBoard}
+use Rattle.board_model.specs.Parts.{readings}
 use Rattle.board_model.specs.State.{DomainState, free_to, queued_from, lent_from}
 use Rattle.board_model.specs.Grammar.{spaced}
 use Rattle.board_model.specs.Report.{answer_words, channel_text, messages_text, places_text, ending}
 use Rattle.board_model.specs.Journal.{PlainAnswer, PlainEntry, again, Line, idle_line, again_line, spin_line, turn_line, back_line, put_line, see_line, take_line, wait_line, call_line}
-use Rattle.mc_base.specs.Reading.{reading}
 use Rattle.mc_base.specs.declared.refusal.Refusal.{Refusal}
 use Rattle.board_model.specs.Unjoined.{times, idle_turn, peers_of}
 use Rattle.board_model.specs.JournalParts.{Part, idles, spins, tries, turn_of, wait_of, call_of, part_lines, part_entries}
@@ -21,7 +21,7 @@ use Rattle.board_model.specs.JournalDeeds.{deeds_of, opened, left_in}
 use Rattle.board_model.specs.Run.{start}
 use Rattle.board_model.specs.Traffic.{put_to, taken_from, back_looks}
 use Rattle.board_model.specs.Board.{DomainJournal, journal_in, journal_of}
-use Rattle.board_model.specs.Given.{names_given}
+use Rattle.board_model.specs.Returns.{names_given}
 use Rattle.board_model.specs.Takings.{is_message_taking, taken_message, completed_by, takings_by, taken_in}
 use Rattle.board_model.specs.Drops.{dropped_by, dropped_in}
 use Rattle.board_model.specs.Channels as channels
@@ -170,8 +170,8 @@ module _ (s : Scenario) (board : IsLinkedBoard s) where
     backs-same : (d p : ℕ) → back_looks p (journal_of d dues) ≡ back_looks p (journal_of d tolds)
     backs-same d p = of-domain (back_looks p) (λ j. backs-answers (script s j.line.domain) p (start s j.line) (journal_told s j).entries) d
 
-    ring-same : (l : Lane) → messages.ring_frames dues l ≡ messages.ring_frames tolds l
-    ring-same l = ap₂ (λ (xs ys : List (List ℕ)). drop (length xs) ys) (taken-same l.receiver l.sender) (put-same l.sender l.receiver)
+    ring-same : (l : Lane) → messages.ring_says dues l ≡ messages.ring_says tolds l
+    ring-same l = ap₂ (λ (xs ys : List (List ℕ)). drop (length xs) (readings None ys)) (taken-same l.receiver l.sender) (put-same l.sender l.receiver)
 
     -- ---- channels
 
@@ -181,7 +181,7 @@ module _ (s : Scenario) (board : IsLinkedBoard s) where
         let taken = flat-same (channels.taken_on s owner number) (λ j due. ap (λ ts. channels.contents_of owner number (map (λ t. t.item) ts)) (both-same takings_by takings-same j due).0) js all in
         let lost = flat-same (channels.lost_in s owner number) (λ j due. (both-same (channels.lost_by owner number) (close-lost owner number) j due).0) js all in
         let queued = flat-same (channels.queued_in s owner number) (λ j due. ap (λ st. flat_map (λ e. channels.contents_of owner number e.queue) st.endpoints) (left-same j due)) js all in
-        let ring : (l : Lane) → channels.data_on dues owner number l ≡ channels.data_on tolds owner number l = λ l. ap (λ fs. cond (l.sender == owner) (flat_map (λ f. channels.data_said number (reading f)) fs) []) (ring-same l) in
+        let ring : (l : Lane) → channels.data_on dues owner number l ≡ channels.data_on tolds owner number l = λ l. ap (λ rs. cond (l.sender == owner) (flat_map (channels.data_said number) rs) []) (ring-same l) in
         λ i. record { accepted = length (accepted i); taken = length (taken i); dropped = length (lost i); queued = length (queued i); ring = length (flat_map (λ l. ring l i) (lanes s)) }
 
     owners-same : (ks : List JournalText) → AllByRecursion IsDue ks → flat_map (totals_of_owner s dues) (map (journal_due s) ks) ≡ flat_map (totals_of_owner s tolds) (map (journal_told s) ks)

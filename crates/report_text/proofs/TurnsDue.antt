@@ -1,11 +1,11 @@
 -- A turn whose visits are those that are due is allowed, in a state of a run; and an idle turn changes nothing.
-use Rattle.std.proofs.Common.{◌≡◌, ℕ, ◌+◌, ◌^◌, ◌<◌, ◌≤◌, Bool, true, false, cond, List, [], ◌∷◌, ◌++◌, map, Option, Some, None, option_map, refl, sym, ap, ap₂, subst, ◌∙◌, inl, inr, arith, eq-eqb, append_assoc}
+use Rattle.std.proofs.Common.{◌≡◌, ℕ, ◌+◌, ◌^◌, ◌<◌, ◌≤◌, Bool, true, false, cond, List, [], ◌∷◌, ◌++◌, length, map, Option, Some, None, option_map, refl, sym, ap, ap₂, subst, ◌∙◌, inl, inr, arith, eq-eqb, append_assoc}
 use Rattle.std.specs.Prelude.{find, unwrap_or, ◌==◌, ◌||◌}
 use Rattle.std.specs.List.{AllByRecursion, list_any}
 use Rattle.std.proofs.lemmas.Bool.Decides.{eqb_tells}
 use Rattle.board_model.specs.Lists.{changed_first}
 use Rattle.board_model.specs.Journal.{Visit}
-use Rattle.board_model.specs.State.{DomainState, Peer, is_numbered, peer_of, is_from, held_from}
+use Rattle.board_model.specs.State.{DomainState, Peer, is_numbered, peer_of, held_from}
 use Rattle.board_model.specs.DomainCall.{DomainCall}
 use Rattle.board_model.specs.CallChanges.{effect}
 use Rattle.board_model.specs.Turn.{nameless, visit_deeds, after_visit, IsVisit, AreVisits, IsTurn, after_turn}
@@ -13,9 +13,8 @@ use Rattle.board_model.specs.Unjoined.{visit_in}
 use Rattle.board_model.proofs.StateEnds.{Ends}
 use Rattle.board_model.proofs.DeedJoins.{call-ends, deeds-ends, deeds-numbers}
 use Rattle.board_model.proofs.LanePeers.{peer_found}
-use Rattle.board_model.proofs.LaneRows.{item-peer}
 use Rattle.board_model.proofs.LaneRuns.{call_holds, looks_hold}
-use Rattle.board_model.proofs.LaneTakes.{takes_count, takes_none}
+use Rattle.board_model.proofs.LaneTakes.{takes_count}
 use Rattle.board_model.proofs.VisitLooks.{after_looks, visit-after, visit-words}
 use Rattle.board_model.proofs.WholePeers.{size_at, shown_at, takes_size, takes_shown, call_size, call_numbers, call_shown, looks_size, looks_other}
 use Rattle.board_model.proofs.WholeLanes.{shown_own}
@@ -54,7 +53,8 @@ own_room s v n size h same sized =
       takes_shown (after_looks s v) v.peer v.takes n true (eq-eqb v.peer n same),
       shown_own s v n size same sized,
       ap (held_from n) (visit-after s v),
-      takes_count (is_from n) (after_looks s v) v.peer (λ source l. ap (λ k. k == n) (item-peer v.peer None source l) ∙ eq-eqb v.peer n same) v.takes words,
+      takes_count n (after_looks s v) v.peer nameless v.takes words,
+      ap (λ b. cond b (length v.takes) 0) (eq-eqb v.peer n same),
       looks_hold n s v,
     )
 
@@ -68,7 +68,8 @@ other_room s v n size h test differ room =
       takes_shown (after_looks s v) v.peer v.takes n false test,
       ap (λ (o : Option Peer). unwrap_or (option_map (λ p. p.shown) o) 0) (looks_other s v n differ),
       ap (held_from n) (visit-after s v),
-      takes_none (is_from n) (after_looks s v) v.peer (λ source l. ap (λ k. k == n) (item-peer v.peer None source l) ∙ test) v.takes words,
+      takes_count n (after_looks s v) v.peer nameless v.takes words,
+      ap (λ b. cond b (length v.takes) 0) test,
       looks_hold n s v,
     )
 

@@ -2,10 +2,9 @@
 use Rattle.std.proofs.Common.{◌≡◌, ℕ, zero, suc, ◌+◌, ◌-◌, ◌≤◌, min, Bool, true, false, cond, List, [], ◌∷◌, ◌++◌, length, map, Some, None, refl, sym, ap, subst, ◌∙◌, arith, length-append, length-take}
 use Rattle.std.specs.Prelude.{nat_lt, replicate}
 use Rattle.std.proofs.lemmas.Bool.Decides.{nat_tests}
-use Rattle.mc_base.specs.Reading.{reading}
 use Rattle.board_model.specs.Journal.{Visit}
 use Rattle.board_model.specs.State.{DomainState, Peer, peer_of, held_from}
-use Rattle.board_model.specs.TakenFrames.{row_of}
+use Rattle.board_model.specs.TakenFrames.{row_from}
 use Rattle.board_model.specs.Deeds.{takes, after_deed, after_deeds}
 use Rattle.board_model.specs.Serial.{looks_deeds}
 use Rattle.board_model.specs.Turn.{turn_limit, due_frames, IsVisit}
@@ -17,11 +16,11 @@ use Rattle.report_text.specs.RightRuns.{DueIsAllowed}
 
 takes-words : (s : DomainState) (peer : ℕ) (fs : List (List ℕ)) → HaveWords s peer (due_takes s peer fs)
 takes-words s peer [] = tt
-takes-words s peer (f ∷ fs) = (refl, takes-words (after_deed s (takes peer None f (row_of s peer None (reading f)).word)) peer fs)
+takes-words s peer (f ∷ fs) = (refl, takes-words (after_deed s (takes peer None f (row_from s peer None f).word)) peer fs)
 
 takes-count : (s : DomainState) (peer : ℕ) (fs : List (List ℕ)) → length (due_takes s peer fs) ≡ length fs
 takes-count s peer [] = refl
-takes-count s peer (f ∷ fs) = ap suc (takes-count (after_deed s (takes peer None f (row_of s peer None (reading f)).word)) peer fs)
+takes-count s peer (f ∷ fs) = ap suc (takes-count (after_deed s (takes peer None f (row_from s peer None f).word)) peer fs)
 
 length-replicate : {A : Type 0} (n : ℕ) (x : A) → length (replicate n x) ≡ n
 length-replicate zero x = refl

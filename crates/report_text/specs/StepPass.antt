@@ -3,13 +3,12 @@
 -- the line behind where some are missing at the end; so too at the puts of a call and its answer, which is told as text.
 use Rattle.std.specs.Prelude.{ℕ, ◌+◌, ◌-◌, min, nat_lt, nat_le, Bool, not, ◌&&◌, ◌||◌, List, [], ◌∷◌, ◌++◌, length, map, take, drop, replicate, ◌==◌, Option, None, Some, if◌then◌else◌}
 use Rattle.std.specs.List.{flat_map}
-use Rattle.mc_base.specs.Reading.{reading}
 use Rattle.board_model.specs.declared.scenario.CallLine.{CallLine}
 use Rattle.board_model.specs.declared.scenario.Scenario.{Scenario}
 use Rattle.board_model.specs.Scenario.{script}
 use Rattle.board_model.specs.Journal.{PlainAnswer, refuses, Taken, taken, Visit, visit_lines, turned, Line, again_line, spin_line, turn_line, put_line, wait_line, call_line}
 use Rattle.board_model.specs.State.{DomainState, Peer, peer_of, held_from}
-use Rattle.board_model.specs.TakenFrames.{row_of}
+use Rattle.board_model.specs.TakenFrames.{row_from}
 use Rattle.board_model.specs.Deeds.{looks_back, puts_owed, looks_ahead, takes, after_deed, after_deeds}
 use Rattle.board_model.specs.Turn.{turn_limit, due_frames, after_visit}
 use Rattle.board_model.specs.Answer.{answer, puts}
@@ -38,7 +37,7 @@ frames_coming n told = take n (told ++ replicate n (0 ∷ []))
 abbrev pub due_takes : DomainState → ℕ → List (List ℕ) → List Taken
 due_takes s peer [] = []
 due_takes s peer (f ∷ fs) =
-    let word = (row_of s peer None (reading f)).word in
+    let word = (row_from s peer None f).word in
     taken f word ∷ due_takes (after_deed s (takes peer None f word)) peer fs
 
 -- with so many buffers that came back, these frames put and so many shown
