@@ -1,24 +1,27 @@
 -- The calls of a lawful script: each frame that one puts is bytes, and goes to a peer; and a wait names at most eight requests.
 use Rattle.std.proofs.Common.{ℕ, ◌+◌, ◌^◌, ◌<◌, ◌≤◌, List, [], ◌∷◌, map, length, Option, Some, None, unwrap_or, arith}
-use Rattle.std.specs.List.{AllByRecursion}
+use Rattle.std.specs.List.{AllByRecursion, flat_map}
 use Rattle.std.proofs.lemmas.List.{length-map}
 use Rattle.mc_base.specs.Letter.{PlainLetter, msg, connect, packet, scalar}
+use Rattle.mc_base.specs.Pieces.{spellings}
+use Rattle.mc_base.specs.declared.name.EndName.{EndName}
+use Rattle.mc_base.specs.declared.name.Local.{Local}
 use Rattle.mc_base.specs.declared.channel.Side.{Side}
 use Rattle.mc_base.specs.declared.channel.Side.TheVariants.{Sender, Receiver}
 use Rattle.mc_base.specs.declared.refusal.Refusal.{Refusal}
 use Rattle.board_model.specs.declared.scenario.Call.{Call}
 use Rattle.board_model.specs.declared.scenario.Call.TheVariants.{Create, Delete, Lookup, MsgSend, MsgRecv, MsgRecvI, MsgAvailable, Connect, OpenSend, OpenRecv, PktSend, PktRecv, PktRecvI, Release, SclSend, SclRecv, CloseSend, CloseRecv, Test, Wait, WaitAny, Cancel, Raw, Turn}
-use Rattle.board_model.specs.Answer.{local, address_of, channel_at, put_of, over_channel, opening_letter, closing_letter, success_puts, puts, refusal, unless_refused}
+use Rattle.board_model.specs.Answer.{Post, post, put_as, puts_of, local, address_of, channel_at, over_channel, opening_letter, closing_letter, success_puts, puts, refusal, unless_refused}
 use Rattle.board_model.specs.DomainCall.{DomainCall, send_from, connect_from, open_at, packet_from, scalar_from, close_at, raw_to}
 use Rattle.board_model.specs.Labels.{Labels, place_of_label, call_of}
 use Rattle.board_model.specs.LinkedBoard.{HasFitArguments}
 use Rattle.board_model.specs.State.{ChannelEnd, Endpoint, DomainState, live_at, address_at}
-use Rattle.board_model.proofs.MessageAlls.{all-with}
+use Rattle.board_model.proofs.MessageAlls.{all-append, all-with}
 use Rattle.mc_journal.specs.EntryText.{AreBytes}
 use Rattle.report_text.proofs.CallsDue.{put_lines, small-call_puts}
 use Rattle.report_text.proofs.LinesTold.{IsSmall}
 use Rattle.report_text.proofs.TurnsDue.{Sound}
-use Rattle.report_laws.proofs.FramesFit.{FitsLetter, letter-fits}
+use Rattle.report_laws.proofs.FramesFit.{FitsLetter, made-fits, spellings-fit}
 use Rattle.report_laws.proofs.AnswersFit.{AsksFew}
 
 -- what a call sends is bytes
@@ -63,11 +66,18 @@ call-fits labels s Turn fits = (tt, tt)
 abbrev IsBytes : ℕ × List ℕ → Type 0
 IsBytes p = AreBytes p.1
 
+put-each : (x : Post) (payloads : List (List ℕ)) → AllByRecursion AreBytes payloads → AllByRecursion IsBytes (map (put_as x) payloads)
+put-each x [] all = tt
+put-each x (p ∷ ps) all = (made-fits x.source x.destination p all.0, put-each x ps all.1)
+
+post-fits : (x : Post) → FitsLetter x.letter → AllByRecursion IsBytes (flat_map puts_of (x ∷ []))
+post-fits x fits = all-append IsBytes (puts_of x) [] (put-each x (spellings x.letter) (spellings-fit x.letter fits)) tt
+
 module _ (s : DomainState) (node : ℕ) where
-  over-fits : (x : Option Endpoint) (c : Option ChannelEnd) (letter : ℕ → PlainLetter) → ((m : ℕ) → FitsLetter (letter m)) → AllByRecursion IsBytes (map put_of (over_channel x c letter))
+  over-fits : (x : Option Endpoint) (c : Option ChannelEnd) (letter : ℕ → PlainLetter) → ((m : ℕ) → FitsLetter (letter m)) → AllByRecursion IsBytes (flat_map puts_of (over_channel x c letter))
   over-fits None c letter fits = tt
   over-fits (Some e) None letter fits = tt
-  over-fits (Some e) (Some c) letter fits = (letter-fits e.address c.peer_address (letter c.number) (fits c.number), tt)
+  over-fits (Some e) (Some c) letter fits = post-fits (post c.peer e.address c.peer_address (letter c.number)) (fits c.number)
 
   opening-fits : (side : Side) (m : ℕ) → FitsLetter (opening_letter side m)
   opening-fits Sender m = tt
@@ -77,9 +87,13 @@ module _ (s : DomainState) (node : ℕ) where
   closing-fits Sender m = tt
   closing-fits Receiver m = tt
 
+  -- to the named endpoint
+  to-fits : (at : Local) (to : EndName) (l : PlainLetter) → FitsLetter l → AllByRecursion IsBytes (flat_map puts_of (post to.domain (unwrap_or (address_at s at) 0) (unwrap_or (address_of s to) 0) l ∷ []))
+  to-fits at to l fits = post-fits (post to.domain (unwrap_or (address_at s at) 0) (unwrap_or (address_of s to) 0) l) fits
+
   success-bytes : (call : DomainCall) → SendsBytes call → AllByRecursion IsBytes (success_puts s node call)
-  success-bytes (send_from port to priority bytes) fits = (letter-fits (unwrap_or (address_at s (local node port)) 0) (unwrap_or (address_of s to) 0) (msg priority bytes) fits, tt)
-  success-bytes (connect_from port to kind) fits = (letter-fits (unwrap_or (address_at s (local node port)) 0) (unwrap_or (address_of s to) 0) (connect (s.channels_given + 1) kind) tt, tt)
+  success-bytes (send_from port to priority bytes) fits = to-fits (local node port) to (msg priority bytes) fits
+  success-bytes (connect_from port to kind) fits = to-fits (local node port) to (connect (s.channels_given + 1) kind) tt
   success-bytes (open_at port side kind) fits = over-fits (live_at s (local node port)) (channel_at s (local node port)) (opening_letter side) (opening-fits side)
   success-bytes (packet_from port bytes) fits = over-fits (live_at s (local node port)) (channel_at s (local node port)) (λ m. packet m bytes) (λ m. fits)
   success-bytes (scalar_from port bits value) fits = over-fits (live_at s (local node port)) (channel_at s (local node port)) (λ m. scalar m bits value) (λ m. tt)

@@ -3,8 +3,9 @@ use Rattle.std.proofs.Common.{◌≡◌, ◌⊎◌, inl, inr, ℕ, ◌+◌, ◌�
 use Rattle.std.specs.Prelude.{◌==◌}
 use Rattle.std.proofs.lemmas.List.{length-append}
 use Rattle.std.proofs.lemmas.List.Sums.{length-filter, count_by-le-length}
-use Rattle.mc_base.specs.Letter.{PlainLetter, accept, reject, send_close}
-use Rattle.mc_base.specs.Reading.{Reading, reading}
+use Rattle.mc_base.specs.Letter.{PlainLetter, accept, packet, reject, send_close}
+use Rattle.mc_base.specs.Pieces.{frames_needed}
+use Rattle.mc_base.specs.Reading.{Reading}
 use Rattle.mc_base.specs.declared.channel.Side.{Side}
 use Rattle.mc_base.specs.declared.channel.Side.TheVariants.{Sender, Receiver}
 use Rattle.mc_base.specs.declared.refusal.Refusal.{Refusal}
@@ -14,7 +15,7 @@ use Rattle.board_model.specs.declared.scenario.Scenario.{Scenario}
 use Rattle.board_model.specs.Answer.{local, refusal, success, answer, answer_by, unless_refused, first_complete}
 use Rattle.board_model.specs.Board.{DomainJournal}
 use Rattle.board_model.specs.CallChanges.{at_live, at_channel, at_end, best_item, new_sender, closing, lending, lent_by_test, success_changes, call_changes}
-use Rattle.board_model.specs.Change.{Change, buffer_used, channel_set, request_added, channel_given, oldest_gone, best_gone, packet_lent, waiting_ended, endpoint_gone, end_announced, channels_given_after, changed, changed_all}
+use Rattle.board_model.specs.Change.{Change, buffers_used, channel_set, request_added, channel_given, oldest_gone, best_gone, packet_lent, waiting_ended, endpoint_gone, end_announced, channels_given_after, changed, changed_all}
 use Rattle.board_model.specs.ChannelEnds.{opened_end}
 use Rattle.board_model.specs.Channels.{sent_over, accepted_by}
 use Rattle.board_model.specs.Choice.{oldest}
@@ -26,8 +27,9 @@ use Rattle.board_model.specs.LinkedBoard.{IsLinkedBoard}
 use Rattle.board_model.specs.Run.{start, left_by, IsDomainRun}
 use Rattle.board_model.specs.Scenario.{script}
 use Rattle.board_model.specs.State.{Item, Endpoint, ChannelEnd, channel_of, message_at, packet_at, has_item, DomainState, live_at, request_at_place}
+use Rattle.board_model.specs.Parts.{Came, came_from, said_from}
 use Rattle.board_model.specs.TakenFrames.{acting, row_of}
-use Rattle.board_model.proofs.LaneRows.{Deals, stays, learns, forgets, hands, queues, loses, rejects, accepts, acts, row-deals}
+use Rattle.board_model.proofs.LaneRows.{Deals, stays, strays, awaits, learns, forgets, hands, queues, loses, rejects, accepts, acts, row-deals}
 use Rattle.board_model.proofs.OrderRuns.{few_left}
 use Rattle.board_model.proofs.OrderSerials.{succeeds, all_succeed}
 use Rattle.board_model.proofs.RunDeeds.{allowed-all, deeds_run}
@@ -54,7 +56,7 @@ changes-number s (c ∷ cs) = omega (arith, changes-number (changed s c) cs, cha
 
 -- ---- frames
 
-frame-numbers : (s : DomainState) (q : ℕ) (name : Option ℕ) (rd : Reading) → numbered_all (row_of s q name rd).happens ≡ 0
+frame-numbers : (s : DomainState) (q : ℕ) (name : Came) (rd : Reading) → numbered_all (row_of s q name rd).happens ≡ 0
 frame-numbers s q name rd = go (row-deals s q name rd)
   where
     acting-numbers : (at : ℕ) (left : Option ChannelEnd) (l : PlainLetter) → numbered_all (acting at left l) ≡ 0
@@ -65,6 +67,8 @@ frame-numbers s q name rd = go (row-deals s q name rd)
 
     go : Deals s q name rd (row_of s q name rd) → numbered_all (row_of s q name rd).happens ≡ 0
     go (stays happens word) = ap numbered_all happens
+    go (strays source at p is none happens word) = ap numbered_all happens
+    go (awaits source at p is some happens word) = ap numbered_all happens
     go (learns text n a names is learned_so happens word) = ap numbered_all happens
     go (forgets text n a names is forgotten_so happens word) = ap numbered_all happens
     go (hands source at l e is found carried waits happens word) = ap numbered_all happens
@@ -107,9 +111,9 @@ success-numbers s node (send_from port to priority bytes) = omega arith
 success-numbers s node (receive_at port max) = none-less (live-numbers (live_at s (local node port)) (λ e. best_gone e.address ∷ []) 0 (λ e. omega arith))
 success-numbers s node (request_at port max) = none-less (live-numbers (live_at s (local node port)) (λ e. best_gone e.address ∷ request_added (message_at e.local max) (option_map has_item (best_item e)) ∷ []) 0 (λ e. omega arith))
 success-numbers s node (available_at port) = omega arith
-success-numbers s node (connect_from port to kind) = live-numbers (live_at s (local node port)) (λ e. buffer_used to.domain ∷ channel_set e.address (Some (new_sender s to kind)) ∷ request_added (channel_of (s.channels_given + 1)) None ∷ channel_given ∷ []) 1 (λ e. omega arith)
-success-numbers s node (open_at port side kind) = none-less (end-numbers (live_at s (local node port)) (λ e c. buffer_used c.peer ∷ channel_set e.address (Some (opened_end c)) ∷ []) (λ e c. omega arith))
-success-numbers s node (packet_from port bytes) = none-less (end-numbers (live_at s (local node port)) (λ e c. buffer_used c.peer ∷ []) (λ e c. omega arith))
+success-numbers s node (connect_from port to kind) = live-numbers (live_at s (local node port)) (λ e. buffers_used to.domain 1 ∷ channel_set e.address (Some (new_sender s to kind)) ∷ request_added (channel_of (s.channels_given + 1)) None ∷ channel_given ∷ []) 1 (λ e. omega arith)
+success-numbers s node (open_at port side kind) = none-less (end-numbers (live_at s (local node port)) (λ e c. buffers_used c.peer 1 ∷ channel_set e.address (Some (opened_end c)) ∷ []) (λ e c. omega arith))
+success-numbers s node (packet_from port bytes) = none-less (end-numbers (live_at s (local node port)) (λ e c. buffers_used c.peer (frames_needed (packet c.number bytes)) ∷ []) (λ e c. omega arith))
 success-numbers s node (lend_at port) = none-less (live-numbers (live_at s (local node port)) (λ e. oldest_gone e.address ∷ lending (oldest e.queue)) 0 (λ e. lends e.address (oldest e.queue)))
   where
     lends : (a : ℕ) (o : Option Item) → numbered_all (oldest_gone a ∷ lending o) ≤ 0
@@ -117,7 +121,7 @@ success-numbers s node (lend_at port) = none-less (live-numbers (live_at s (loca
     lends a (Some i) = omega arith
 success-numbers s node (packet_request_at port) = none-less (live-numbers (live_at s (local node port)) (λ e. oldest_gone e.address ∷ request_added (packet_at e.local) (option_map has_item (oldest e.queue)) ∷ []) 0 (λ e. omega arith))
 success-numbers s node (release_of place) = omega arith
-success-numbers s node (scalar_from port bits value) = none-less (end-numbers (live_at s (local node port)) (λ e c. buffer_used c.peer ∷ []) (λ e c. omega arith))
+success-numbers s node (scalar_from port bits value) = none-less (end-numbers (live_at s (local node port)) (λ e c. buffers_used c.peer 1 ∷ []) (λ e c. omega arith))
 success-numbers s node (scalar_at port bits) = none-less (live-numbers (live_at s (local node port)) (λ e. oldest_gone e.address ∷ []) 0 (λ e. omega arith))
 success-numbers s node (close_at port side) = none-less (end-numbers (live_at s (local node port)) (closing side) (closing-numbers side))
 success-numbers s node (test_of place) = omega (arith, test-numbers (lent_by_test (request_at_place s place)) (tested-are (request_at_place s place)))
@@ -139,7 +143,7 @@ deed-numbers : (s : DomainState) (d : Deed) → MayDo s d → numbered_all (happ
 deed-numbers s (looks_back q n) may = omega arith
 deed-numbers s (puts_owed q frame) may = omega arith
 deed-numbers s (looks_ahead q n) may = omega arith
-deed-numbers s (takes q name frame word) may = omega (arith, frame-numbers s q name (reading frame))
+deed-numbers s (takes q name frame word) may = omega (arith, frame-numbers s q (came_from s q name frame) (said_from s q frame))
 deed-numbers s (calls node call a) may = call-numbers s node call a may
 
 deeds-number : (s : DomainState) (ds : List Deed) → AllMayDo s ds → (after_deeds s ds).channels_given ≤ s.channels_given + all_succeed ds

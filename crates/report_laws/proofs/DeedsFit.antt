@@ -15,28 +15,29 @@ use Rattle.mc_base.specs.declared.name.Local.{Local}
 use Rattle.mc_base.specs.declared.refusal.Refusal.{Refusal}
 use Rattle.board_model.specs.Answer.{local, known_address, address_of, first_complete, refusal, holds, words_of, unless_refused}
 use Rattle.board_model.specs.CallChanges.{closing, lending, lent_by_test, success_changes, call_changes, effect}
-use Rattle.board_model.specs.Change.{Change, packet_lent, frame_taken, changed}
+use Rattle.board_model.specs.Change.{Change, packet_lent, changed}
 use Rattle.board_model.specs.Choice.{least, best, oldest}
-use Rattle.board_model.specs.Deeds.{Deed, looks_back, puts_owed, looks_ahead, takes, calls, happens_by, after_deed, after_deeds}
+use Rattle.board_model.specs.Deeds.{Deed, taken_change, looks_back, puts_owed, looks_ahead, takes, calls, happens_by, after_deed, after_deeds}
 use Rattle.board_model.specs.DomainCall.{DomainCall, create_at, delete_at, lookup_of, send_from, receive_at, request_at, available_at, connect_from, open_at, packet_from, lend_at, packet_request_at, release_of, scalar_from, scalar_at, close_at, test_of, wait_for, cancel_of, raw_to, turn_alone}
 use Rattle.board_model.specs.Journal.{Visit, Taken}
 use Rattle.board_model.specs.State.{Item, ChannelEnd, Endpoint, has_address, has_item, Peer, DomainState, is_at, address_at, live_at, is_numbered, peer_at, peer_of, request_at_place}
-use Rattle.board_model.specs.TakenFrames.{Row, names_of, item_of, acting, row_of}
+use Rattle.board_model.specs.Parts.{Came, part_in, part_of, said_from, came_from}
+use Rattle.board_model.specs.TakenFrames.{Row, names_of, item_of, acting, row_from}
 use Rattle.board_model.specs.Turn.{nameless, takes_named, visit_deeds, after_visit, after_turn}
 use Rattle.board_model.proofs.HonestDeeds.{live_holds, NoWord}
 use Rattle.board_model.proofs.LanePeers.{peer_found}
-use Rattle.board_model.proofs.LaneRows.{Deals, stays, learns, forgets, hands, queues, loses, rejects, accepts, acts, row-deals}
+use Rattle.board_model.proofs.LaneRows.{Deals, stays, strays, awaits, learns, forgets, hands, queues, loses, rejects, accepts, acts, row-deals}
 use Rattle.board_model.proofs.MessageAlls.{none-passes, all-append, all-filter, all-found}
 use Rattle.board_model.proofs.MessageLists.{get-position, best_is}
 use Rattle.board_model.proofs.StateEnds.{end-holds, tested-are}
 use Rattle.mc_journal.specs.EntryText.{AreBytes}
 use Rattle.report_laws.proofs.FramesFit.{little-bytes, bits-fit}
-use Rattle.report_laws.proofs.ReadingsFit.{FitsSaid, FitsReading, reading-fits}
+use Rattle.report_laws.proofs.ReadingsFit.{FitsSaid, FitsReading, FitsPart, reading-fits, coming-fits}
 use Rattle.report_laws.proofs.StatesFit.{FitsItem, FitsOutcome, FitsEnd, FitNames, FitsPeer, Fits, FitChanges, fits-changed, fits-changes}
 
 -- ---- frames
 
-item-fits : (peer : ℕ) (name : Option ℕ) (source : ℕ) (l : PlainLetter) → FitsSaid l → FitsItem (item_of peer name source l)
+item-fits : (peer : ℕ) (name : Came) (source : ℕ) (l : PlainLetter) → FitsSaid l → FitsItem (item_of peer name source l)
 item-fits peer name source (msg priority content) fits = fits
 item-fits peer name source (packet number content) fits = fits
 item-fits peer name source (scalar number bits value) fits = record {
@@ -73,7 +74,14 @@ module _ (s : DomainState) (h : Fits s) where
     where
       go : (o : Option Peer) → peer_at s peer ≡ o → FitNames (names_of o)
       go None found = tt
-      go (Some p) found = all-found FitsPeer (is_numbered peer) s.peers p h.names found
+      go (Some p) found = (all-found FitsPeer (is_numbered peer) s.peers p h.peers found).known
+
+  part-fits : (peer : ℕ) → FitsPart (part_of s peer)
+  part-fits peer = go (peer_at s peer) refl
+    where
+      go : (o : Option Peer) → peer_at s peer ≡ o → FitsPart (part_in o)
+      go None found = tt
+      go (Some p) found = (all-found FitsPeer (is_numbered peer) s.peers p h.peers found).part
 
   acts-fit : (t : DomainState) (at : ℕ) (left : Option ChannelEnd) (l : PlainLetter) → FitChanges t (acting at left l)
   acts-fit t at left (accept n) = (tt, (tt, tt))
@@ -81,8 +89,10 @@ module _ (s : DomainState) (h : Fits s) where
   acts-fit t at left (send_close n) = (tt, (tt, tt))
   acts-fit t at left other = (tt, tt)
 
-  deals-fit : (t : DomainState) (peer : ℕ) (name : Option ℕ) (frame : Reading) (r : Row) → FitsReading frame → Deals s peer name frame r → FitChanges t r.happens
+  deals-fit : (t : DomainState) (peer : ℕ) (name : Came) (frame : Reading) (r : Row) → FitsReading frame → Deals s peer name frame r → FitChanges t r.happens
   deals-fit t peer name frame r fits (stays happens word) = subst (FitChanges t) (sym happens) tt
+  deals-fit t peer name frame r fits (strays source at q is none happens word) = subst (FitChanges t) (sym happens) tt
+  deals-fit t peer name frame r fits (awaits source at q is some happens word) = subst (FitChanges t) (sym happens) tt
   deals-fit t peer name frame r fits (learns text n a names is learned_so happens word) =
       let one : a < 2 ^ 32 = subst FitsReading is fits in
       subst (FitChanges t) (sym happens) (subst FitNames (sym learned_so) (learned-fits n a (names_of (peer_at s peer)) one (names-fit peer)), (one, tt))
@@ -114,7 +124,7 @@ module _ (s : DomainState) (h : Fits s) where
     where
       go : (o : Option (EndName × ℕ)) → find (has_name n) p.known ≡ o → FitsAddress (option_map (λ k. k.1) o)
       go None known = tt
-      go (Some k) known = all-found (λ (j : EndName × ℕ). j.1 < 2 ^ 32) (has_name n) p.known k (all-found FitsPeer (is_numbered n.domain) s.peers p h.names found) known
+      go (Some k) known = all-found (λ (j : EndName × ℕ). j.1 < 2 ^ 32) (has_name n) p.known k (all-found FitsPeer (is_numbered n.domain) s.peers p h.peers found).known known
 
   address-fits : (n : EndName) → FitsAddress (address_of s n)
   address-fits n =
@@ -185,9 +195,11 @@ deed-fits s (looks_back peer count) bytes h = fits-changes s (happens_by s (look
 deed-fits s (puts_owed peer frame) bytes h = fits-changes s (happens_by s (puts_owed peer frame)) (tt, tt) h
 deed-fits s (looks_ahead peer count) bytes h = fits-changes s (happens_by s (looks_ahead peer count)) (tt, tt) h
 deed-fits s (takes peer name frame word) bytes h =
-    fits-changes (changed s (frame_taken peer)) (row_of s peer name (reading frame)).happens
-    (deals-fit s h (changed s (frame_taken peer)) peer name (reading frame) (row_of s peer name (reading frame)) (reading-fits frame bytes) (row-deals s peer name (reading frame)))
-    (fits-changed s h (frame_taken peer) tt)
+    let came : Came = came_from s peer name frame in
+    let fits = coming-fits (part_of s peer) (reading frame) (part-fits s h peer) (reading-fits frame bytes) in
+    fits-changes (changed s (taken_change peer came)) (row_from s peer name frame).happens
+    (deals-fit s h (changed s (taken_change peer came)) peer came (said_from s peer frame) (row_from s peer name frame) fits.reading (row-deals s peer came (said_from s peer frame)))
+    (fits-changed s h (taken_change peer came) fits.part)
 deed-fits s (calls node call a) bytes h = effect-fits s h node call
 
 deeds-fit : (s : DomainState) (ds : List Deed) → AllByRecursion BringsBytes ds → Fits s → Fits (after_deeds s ds)

@@ -1,6 +1,6 @@
 -- The frames that a domain puts are bytes, whatever it knows: numbers are spelled by their lowest bytes, and contents are those of calls.
-use Rattle.std.proofs.Common.{ℕ, zero, suc, ◌+◌, ◌/◌, ◌%◌, ◌<◌, ◌-◌, false, List, [], ◌∷◌, ◌++◌, length, map, replicate, Option, Some, None, arith}
-use Rattle.std.specs.Prelude.{◌==◌, nat_lt, codes, decimal}
+use Rattle.std.proofs.Common.{ℕ, zero, suc, ◌+◌, ◌/◌, ◌%◌, ◌<◌, ◌-◌, false, List, [], ◌∷◌, ◌++◌, length, map, take, drop, replicate, Option, Some, None, arith}
+use Rattle.std.specs.Prelude.{◌==◌, nat_le, nat_lt, codes, decimal}
 use Rattle.std.specs.Fmt.{digit_glyph, digits_onto, digits}
 use Rattle.std.specs.List.{AllByRecursion}
 use Rattle.std.specs.Int.{byte_at, bytes_low_first}
@@ -9,7 +9,9 @@ use Rattle.byteorder.specs.Endian.{little_bytes}
 use Rattle.mc_base.specs.Announcement.{flags_of}
 use Rattle.mc_base.specs.Frame.{made}
 use Rattle.mc_base.specs.FullName.{end_name, full_name}
-use Rattle.mc_base.specs.Letter.{PlainLetter, msg, connect, accept, reject, recv_open, send_open, packet, scalar, send_close, recv_close, spelling, kind_number, reason_number, bytes_of_bits}
+use Rattle.mc_base.specs.Letter.{Carrier, of_message, of_packet, carried, piece, piece_spelling, PlainLetter, msg, connect, accept, reject, recv_open, send_open, packet, scalar, send_close, recv_close, spelling, kind_number, reason_number, bytes_of_bits}
+use Rattle.mc_base.specs.Limits.{piece_size, single_size}
+use Rattle.mc_base.specs.Pieces.{item_spellings, parts_count, parts_from, parts_of, spellings}
 use Rattle.mc_base.specs.declared.channel.Bits.{Bits}
 use Rattle.mc_base.specs.declared.channel.Bits.TheVariants.{B8, B16, B32, B64}
 use Rattle.mc_base.specs.declared.channel.Kind.{Kind}
@@ -18,11 +20,16 @@ use Rattle.mc_base.specs.declared.channel.Reason.{Reason}
 use Rattle.mc_base.specs.declared.channel.Reason.TheVariants.{NoEndpoint, Connected, Busy}
 use Rattle.mc_base.specs.declared.name.EndName.{EndName}
 use Rattle.board_model.specs.State.{Announcement, Reply, Peer, announcing, letter_by, replying, owed_to}
-use Rattle.board_model.proofs.MessageAlls.{all-append}
+use Rattle.board_model.proofs.MessageAlls.{all-append, all-drop}
 use Rattle.mc_journal.specs.EntryText.{AreBytes}
 
 abbrev pub bytes-append : (xs ys : List ℕ) → AreBytes xs → AreBytes ys → AreBytes (xs ++ ys)
 bytes-append = all-append (λ b. b < 256)
+
+pub all-take : {A : Type 0} (P : A → Type 0) (n : ℕ) (xs : List A) → AllByRecursion P xs → AllByRecursion P (take n xs)
+all-take P zero xs all = tt
+all-take P (suc n) [] all = tt
+all-take P (suc n) (x ∷ xs) all = (all.0, all-take P n xs all.1)
 
 -- ---- numbers
 
@@ -107,6 +114,41 @@ spelling-fits (scalar channel bits value) fits =
     spelled-fits 1 8 (bytes_of_bits bits) channel (little_bytes (bytes_of_bits bits) value) (omega arith) (omega arith) (bits-fit bits) (little-bytes (bytes_of_bits bits) value)
 spelling-fits (send_close channel) fits = spelled-fits 1 9 0 channel [] (omega arith) (omega arith) (omega arith) tt
 spelling-fits (recv_close channel) fits = spelled-fits 1 10 0 channel [] (omega arith) (omega arith) (omega arith) tt
+
+-- a part of a message or packet
+abbrev FitsCarrier : Carrier → Type 0
+FitsCarrier (of_message priority) = priority < 256
+FitsCarrier (of_packet channel) = Unit {0}
+
+numbers-fit : (total offset : ℕ) (content : List ℕ) → AreBytes content → AreBytes (little_bytes 2 total ++ (little_bytes 2 offset ++ content))
+numbers-fit total offset content all =
+    bytes-append (little_bytes 2 total) (little_bytes 2 offset ++ content) (little-bytes 2 total) (bytes-append (little_bytes 2 offset) content (little-bytes 2 offset) all)
+
+piece-fits : (k : Carrier) (total offset : ℕ) (content : List ℕ) → FitsCarrier k → AreBytes content → AreBytes (piece_spelling (piece k total offset content))
+piece-fits (of_message priority) total offset content low all = spelled-fits 2 1 priority 0 (little_bytes 2 total ++ (little_bytes 2 offset ++ content)) (omega arith) (omega arith) low (numbers-fit total offset content all)
+piece-fits (of_packet channel) total offset content low all = spelled-fits 2 7 0 channel (little_bytes 2 total ++ (little_bytes 2 offset ++ content)) (omega arith) (omega arith) (omega arith) (numbers-fit total offset content all)
+
+parts-fit : (cut : ℕ) (k : Carrier) (total n offset : ℕ) (rest : List ℕ) → FitsCarrier k → AreBytes rest → AllByRecursion AreBytes (map piece_spelling (parts_from cut k total n offset rest))
+parts-fit cut k total zero offset rest low all = tt
+parts-fit cut k total (suc n) offset rest low all =
+    (piece-fits k total offset (take cut rest) low (all-take (λ b. b < 256) cut rest all), parts-fit cut k total n (offset + cut) (drop cut rest) low (all-drop (λ b. b < 256) cut rest all))
+
+item-fits : (k : Carrier) (bytes : List ℕ) → FitsCarrier k → AreBytes bytes → AreBytes (spelling (carried k bytes)) → AllByRecursion AreBytes (item_spellings k bytes)
+item-fits k bytes low all one =
+    cond_both (nat_le (length bytes) single_size) (spelling (carried k bytes) ∷ []) (map piece_spelling (parts_of k bytes)) (AllByRecursion AreBytes) (λ e. (one, tt)) (λ e. parts-fit piece_size k (length bytes) (parts_count (length bytes)) 0 bytes low all)
+
+-- all payloads of a letter
+pub spellings-fit : (l : PlainLetter) → FitsLetter l → AllByRecursion AreBytes (spellings l)
+spellings-fit (msg priority bytes) fits = item-fits (of_message priority) bytes fits.0 fits.1 (spelling-fits (msg priority bytes) fits)
+spellings-fit (packet channel bytes) fits = item-fits (of_packet channel) bytes tt fits (spelling-fits (packet channel bytes) fits)
+spellings-fit (connect channel kind) fits = (spelling-fits (connect channel kind) fits, tt)
+spellings-fit (accept channel) fits = (spelling-fits (accept channel) fits, tt)
+spellings-fit (reject channel reason) fits = (spelling-fits (reject channel reason) fits, tt)
+spellings-fit (recv_open channel) fits = (spelling-fits (recv_open channel) fits, tt)
+spellings-fit (send_open channel) fits = (spelling-fits (send_open channel) fits, tt)
+spellings-fit (scalar channel bits value) fits = (spelling-fits (scalar channel bits value) fits, tt)
+spellings-fit (send_close channel) fits = (spelling-fits (send_close channel) fits, tt)
+spellings-fit (recv_close channel) fits = (spelling-fits (recv_close channel) fits, tt)
 
 pub letter-fits : (source destination : ℕ) (l : PlainLetter) → FitsLetter l → AreBytes (made source destination (spelling l))
 letter-fits source destination l fits = made-fits source destination (spelling l) (spelling-fits l fits)

@@ -9,7 +9,7 @@ use Rattle.board_model.specs.Words.{same_word}
 use Rattle.board_model.specs.Journal.{PlainEntry, turned, put, again, waits, called, Line, idle_line, again_line, spin_line, turn_line, back_line, put_line, see_line, take_line, wait_line, call_line, visit_lines, is_idle, joinable, with_idle, noted_idle, spinning, with_spin, noted_spin, is_one_idle, noted_again, noted, noted_all, joined}
 use Rattle.board_model.proofs.MessageAlls.{all-append}
 use Rattle.mc_journal.specs.EntryText.{IsEntryLine}
-use Rattle.report_laws.proofs.ReadingsFit.{all-take}
+use Rattle.report_laws.proofs.FramesFit.{all-take}
 
 abbrev Are : List Line → Type 0
 Are lines = AllByRecursion IsEntryLine lines

@@ -60,7 +60,7 @@ known-holds P n (m ∷ ns) all known = go (m == n) refl known (λ more. known-ho
 
 new-fit : (ns : List Neighbour) → AllByRecursion FitsPeer (map new_peer ns)
 new-fit [] = tt
-new-fit (n ∷ ns) = (tt, new-fit ns)
+new-fit (n ∷ ns) = (record { known = tt; part = tt }, new-fit ns)
 
 module _ (s : Scenario) (js : List DomainJournal) (board : IsLinkedBoard s) (run : IsBoardRun s js) where
   -- ---- each journal
@@ -95,7 +95,7 @@ module _ (s : Scenario) (js : List DomainJournal) (board : IsLinkedBoard s) (run
     good : Good (peers_of s j.line) (start s j.line).state
     good = record {
       sound = (opening-going s board j.line at.lawful).sound;
-      fits = record { ends = tt; requests = tt; names = new-fit (neighbours s j.line); serials = omega arith };
+      fits = record { ends = tt; requests = tt; peers = new-fit (neighbours s j.line); serials = omega arith };
       from = record { queued = tt; lent = tt; packets = tt };
     }
 

@@ -15,8 +15,7 @@ use Rattle.board_model.proofs.RunDeeds.{AllAllowed}
 use Rattle.mc_journal.specs.EntryText.{AreBytes}
 use Rattle.report_text.proofs.TurnsDue.{Sound, sound-visit, sound-call}
 use Rattle.report_laws.proofs.CallsFit.{call-fits, FitsPut, puts-fit}
-use Rattle.report_laws.proofs.FramesFit.{owed-fits}
-use Rattle.report_laws.proofs.ReadingsFit.{all-take}
+use Rattle.report_laws.proofs.FramesFit.{all-take, owed-fits}
 
 abbrev pub OwesBytes : Visit → Type 0
 OwesBytes v = AllByRecursion AreBytes v.owed

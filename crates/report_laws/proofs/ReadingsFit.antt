@@ -1,25 +1,22 @@
--- What is read of a frame of bytes: an address of four bytes, or a letter whose content is bytes, of which there are few.
-use Rattle.std.proofs.Common.{ℕ, zero, suc, ◌^◌, ◌<◌, Bool, true, false, cond, List, [], ◌∷◌, length, take, drop, Option, Some, None, slice_index, length-take, length-drop, arith}
+-- What is read of a frame of bytes: an address of four bytes, or a letter or a part of one whose content is bytes, of which there are few.
+use Rattle.std.proofs.Common.{ℕ, zero, suc, ◌^◌, ◌<◌, Bool, true, false, cond, ◌≡◌, List, [], ◌∷◌, ◌++◌, length, take, drop, Option, Some, None, refl, slice_index, length-take, length-drop, arith, eqb-true}
 use Rattle.std.specs.Prelude.{◌==◌}
-use Rattle.std.specs.List.{AllByRecursion}
 use Rattle.byteorder.specs.Endian.{little_number}
 use Rattle.byteorder.specs.Numbers.{little_from-lt}
 use Rattle.mc_base.specs.Bytes.{number_at}
 use Rattle.mc_base.specs.Fault.{fault}
 use Rattle.mc_base.specs.Frame.{source_of, destination_of, payload_length_of, payload_of}
-use Rattle.mc_base.specs.Letter.{Fields, PlainLetter, msg, connect, accept, reject, recv_open, send_open, packet, scalar, send_close, recv_close}
-use Rattle.mc_base.specs.LetterFaults.{fields_in}
-use Rattle.mc_base.specs.Reading.{Reading, is_faulty, announces, says, kind_numbered, reason_numbered, bits_of_bytes, letter_of, announced_in, reading_by, reading}
+use Rattle.mc_base.specs.Letter.{Carrier, of_message, of_packet, carried, Piece, Fields, PlainLetter, msg, connect, accept, reject, recv_open, send_open, packet, scalar, send_close, recv_close}
+use Rattle.mc_base.specs.LetterFaults.{fields_in, total_in}
+use Rattle.mc_base.specs.Reading.{Reading, is_faulty, announces, says, brings, kind_numbered, reason_numbered, bits_of_bytes, letter_of, piece_of, said_in, announced_in, reading_by, reading}
 use Rattle.mc_base.specs.declared.fault.Fault.{Fault}
-use Rattle.board_model.proofs.MessageAlls.{all-drop}
+use Rattle.board_model.specs.State.{Part}
+use Rattle.board_model.specs.Parts.{Coming, coming, coming_so, alone, goes_on, grown, with_piece}
+use Rattle.board_model.proofs.MessageAlls.{all-append, all-drop}
 use Rattle.mc_journal.specs.EntryText.{AreBytes}
+use Rattle.report_laws.proofs.FramesFit.{all-take}
 
 -- ---- bytes
-
-pub all-take : {A : Type 0} (P : A → Type 0) (n : ℕ) (xs : List A) → AllByRecursion P xs → AllByRecursion P (take n xs)
-all-take P zero xs all = tt
-all-take P (suc n) [] all = tt
-all-take P (suc n) (x ∷ xs) all = (all.0, all-take P n xs all.1)
 
 pub bytes-take : (n : ℕ) (xs : List ℕ) → AreBytes xs → AreBytes (take n xs)
 bytes-take = all-take (λ b. b < 256)
@@ -76,12 +73,27 @@ module _ (f : Fields) (fits : FitsContent f.content) where
   letter-fits : FitsSaid (letter_of f)
   letter-fits = by-kind (f.kind == 1) (f.kind == 2) (f.kind == 3) (f.kind == 4) (f.kind == 5) (f.kind == 6) (f.kind == 7) (f.kind == 8) (f.kind == 9)
 
+-- ---- parts
+
+pub record FitsPiece (q : Piece) : Type 0 where
+  pub total : q.total < 2 ^ 32
+  pub all : AreBytes q.content
+
+abbrev pub FitsPart : Option Part → Type 0
+FitsPart None = Unit {0}
+FitsPart (Some p) = (p.total < 2 ^ 32) × AreBytes p.content
+
+carried-fits : (k : Carrier) (bytes : List ℕ) → FitsContent bytes → FitsSaid (carried k bytes)
+carried-fits (of_message priority) bytes fits = fits
+carried-fits (of_packet channel) bytes fits = fits
+
 -- ---- frames
 
 abbrev pub FitsReading : Reading → Type 0
 FitsReading (is_faulty f) = Unit {0}
 FitsReading (announces text address there) = address < 2 ^ 32
 FitsReading (says source destination l) = FitsSaid l
+FitsReading (brings source destination q) = FitsPiece q
 
 module _ (frame : List ℕ) (bytes : AreBytes frame) where
   payload-bytes : AreBytes (payload_of frame)
@@ -97,9 +109,18 @@ module _ (frame : List ℕ) (bytes : AreBytes frame) where
     all = bytes-drop 8 (payload_of frame) payload-bytes;
   }
 
-  by-destination : (b : Bool) → FitsReading (cond b (announced_in (payload_of frame)) (says (source_of frame) (destination_of frame) (letter_of (fields_in (payload_of frame)))))
+  by-version : (b : Bool) → FitsReading (cond b (brings (source_of frame) (destination_of frame) (piece_of (fields_in (payload_of frame)))) (says (source_of frame) (destination_of frame) (letter_of (fields_in (payload_of frame)))))
+  by-version true = record {
+    total =
+        let most : total_in (fields_in (payload_of frame)) < 65536 = number-fits 0 2 (fields_in (payload_of frame)).content content-fits.all in
+        omega (arith, most);
+    all = bytes-drop 4 (fields_in (payload_of frame)).content content-fits.all;
+  }
+  by-version false = letter-fits (fields_in (payload_of frame)) content-fits
+
+  by-destination : (b : Bool) → FitsReading (cond b (announced_in (payload_of frame)) (said_in (source_of frame) (destination_of frame) (fields_in (payload_of frame))))
   by-destination true = number-fits 32 4 (payload_of frame) payload-bytes
-  by-destination false = letter-fits (fields_in (payload_of frame)) content-fits
+  by-destination false = by-version ((fields_in (payload_of frame)).version == 2)
 
   by-fault : (o : Option Fault) → FitsReading (reading_by o frame)
   by-fault (Some f) = tt
@@ -108,3 +129,36 @@ module _ (frame : List ℕ) (bytes : AreBytes frame) where
   pub reading-fits : FitsReading (reading frame)
   unfolding reading
   reading-fits = by-fault (fault frame)
+
+-- ---- frames that go on with an open part
+
+pub record FitsComing (c : Coming) : Type 0 where
+  pub reading : FitsReading c.reading
+  pub part : FitsPart c.part
+
+grown-fits : (joins : Bool) (p : Part) (q : Piece) → FitsPart (Some p) → FitsPiece q → FitsComing (grown joins p q)
+grown-fits joins p q open_fits fits = go (length (p.content ++ q.content) == p.total) refl
+  where
+    all : AreBytes (p.content ++ q.content)
+    all = all-append (λ b. b < 256) p.content q.content open_fits.1 fits.all
+
+    go : (b : Bool) → (length (p.content ++ q.content) == p.total) ≡ b
+        → FitsComing (cond b (coming_so (says p.source p.destination (carried p.carrier (p.content ++ q.content))) None joins) (coming_so (brings p.source p.destination q) (Some (with_piece p q)) joins))
+    go true is =
+        let whole = eqb-true (length (p.content ++ q.content)) p.total is in
+        record { reading = carried-fits p.carrier (p.content ++ q.content) (record { size = omega (arith, whole, open_fits.0); all = all }); part = tt }
+    go false is = record { reading = fits; part = (open_fits.0, all) }
+
+piece-fits : (o : Option Part) (source destination : ℕ) (q : Piece) → FitsPart o → FitsPiece q → FitsComing (coming o (brings source destination q))
+piece-fits None source destination q open_fits fits = record { reading = fits; part = tt }
+piece-fits (Some p) source destination q open_fits fits = go (goes_on p source destination q)
+  where
+    go : (b : Bool) → FitsComing (cond b (grown true p q) (alone source destination q))
+    go true = grown-fits true p q open_fits fits
+    go false = record { reading = fits; part = tt }
+
+pub coming-fits : (o : Option Part) (r : Reading) → FitsPart o → FitsReading r → FitsComing (coming o r)
+coming-fits o (brings source destination q) open_fits fits = piece-fits o source destination q open_fits fits
+coming-fits o (is_faulty f) open_fits fits = record { reading = tt; part = tt }
+coming-fits o (announces text address there) open_fits fits = record { reading = fits; part = tt }
+coming-fits o (says source destination l) open_fits fits = record { reading = fits; part = tt }

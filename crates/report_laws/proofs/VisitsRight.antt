@@ -3,11 +3,10 @@ use Rattle.std.proofs.Common.{◌≡◌, ℕ, ◌+◌, ◌-◌, ◌≤◌, min, 
 use Rattle.std.specs.Prelude.{nat_lt, replicate}
 use Rattle.std.proofs.lemmas.Bool.Decides.{nat_tests}
 use Rattle.std.proofs.lemmas.List.{take_at}
-use Rattle.mc_base.specs.Reading.{reading}
 use Rattle.mc_base.specs.declared.fate.Fate.{Fate}
 use Rattle.board_model.specs.Journal.{Taken, taken, Visit}
 use Rattle.board_model.specs.State.{DomainState, Peer, held_from}
-use Rattle.board_model.specs.TakenFrames.{row_of}
+use Rattle.board_model.specs.TakenFrames.{row_from}
 use Rattle.board_model.specs.Deeds.{takes, after_deed}
 use Rattle.board_model.specs.Turn.{turn_limit, due_frames, IsVisit, AreVisits, after_visit}
 use Rattle.board_model.proofs.VisitLooks.{HaveWords, after_looks, visit-words}
@@ -17,7 +16,7 @@ use Rattle.report_text.specs.StepPass.{due_back, due_see, frames_coming, due_tak
 
 takes-due : (s : DomainState) (peer : ℕ) (ts : List Taken) → HaveWords s peer ts → due_takes s peer (map (λ t. t.frame) ts) ≡ ts
 takes-due s peer [] h = refl
-takes-due s peer (t ∷ ts) h = step (row_of s peer None (reading t.frame)).word h.0 (takes-due (after_deed s (takes peer None t.frame t.fate)) peer ts h.1)
+takes-due s peer (t ∷ ts) h = step (row_from s peer None t.frame).word h.0 (takes-due (after_deed s (takes peer None t.frame t.fate)) peer ts h.1)
   where
     step : (w : Fate) → w ≡ t.fate → due_takes (after_deed s (takes peer None t.frame t.fate)) peer (map (λ u. u.frame) ts) ≡ ts → taken t.frame w ∷ due_takes (after_deed s (takes peer None t.frame w)) peer (map (λ u. u.frame) ts) ≡ t ∷ ts
     step w e rest = ap (λ x. taken t.frame x ∷ due_takes (after_deed s (takes peer None t.frame x)) peer (map (λ u. u.frame) ts)) e ∙ ap (λ us. t ∷ us) rest
