@@ -4,7 +4,7 @@ use Rattle.std.specs.List.{AllByRecursion}
 use Rattle.mc_base.specs.declared.refusal.Refusal.{Refusal}
 use Rattle.board_model.specs.declared.scenario.CallLine.{CallLine}
 use Rattle.board_model.specs.Deeds.{Deed, looks_back, puts_owed, looks_ahead, takes, calls, after_deed, after_deeds, along}
-use Rattle.board_model.specs.Given.{names_given}
+use Rattle.board_model.specs.Returns.{names_given}
 use Rattle.board_model.specs.Journal.{again}
 use Rattle.board_model.specs.State.{DomainState}
 use Rattle.board_model.specs.Step.{RunState, after}

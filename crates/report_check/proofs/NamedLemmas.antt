@@ -10,8 +10,8 @@ use Rattle.board_model.specs.Change.{changed_all}
 use Rattle.board_model.specs.DomainCall.{DomainCall}
 use Rattle.board_model.specs.Journal.{PlainAnswer}
 use Rattle.board_model.specs.Deeds.{Deed, looks_back, puts_owed, looks_ahead, takes, calls, after_deed, after_deeds, along}
-use Rattle.board_model.specs.Given.{frames_from, given_at_once, names_given}
-use Rattle.board_model.specs.State.{DomainState}
+use Rattle.board_model.specs.Returns.{given_at_once, given_by_frame, names_given}
+use Rattle.board_model.specs.State.{DomainState, frames_from}
 use Rattle.board_model.specs.Unnamed.{no_names, unnamed}
 use Rattle.board_model.proofs.DeedJoins.{after-join, along-join}
 use Rattle.board_model.proofs.UnnamedDeeds.{deed-unnamed}
@@ -104,12 +104,12 @@ module _ (s : NamedState) (u : DomainState) where
 
 -- ---- a frame that is taken
 
-module _ (s t : NamedState) (peer place : ℕ) (frame : List ℕ) (word : Fate) (small : peer < 8) (at : place ≡ slice_index s.taken peer) (state : t.state ≡ after_deed s.state (takes peer (Some place) frame word)) where
+module _ (s t : NamedState) (peer place : ℕ) (frame : List ℕ) (word : Fate) (small : peer < 8) (at : place ≡ slice_index s.taken peer) (state : t.state ≡ after_deed s.state (takes peer (Some place) frame word)) (gives : given_by_frame s.state peer (Some place) frame word ≡ given_at_once word (place ∷ [])) where
   abbrev unnamed_take : Deed
   unnamed_take = takes peer None frame word
 
   pub goes-take : ((p : ℕ) → p < 8 → slice_index s.taken peer + 1 < 2 ^ 32 → slice_index t.taken p ≡ slice_index s.taken p + cond (peer == p) 1 0)
-      → AddsBy (λ p. cond (peer == p) (given_at_once word (Some place)) []) s.given t.given → GoesOn s t (unnamed_take ∷ [])
+      → AddsBy (λ p. cond (peer == p) (given_at_once word (place ∷ [])) []) s.given t.given → GoesOn s t (unnamed_take ∷ [])
   goes-take counts adds = record {
     plain = ap unnamed state ∙ deed-unnamed s.state (takes peer (Some place) frame word);
     named = λ first before few done.
@@ -120,7 +120,10 @@ module _ (s t : NamedState) (peer place : ℕ) (frame : List ℕ) (word : Fate) 
         (record {
           state = state ∙ ap (λ n. after_deed s.state (takes peer (Some n) frame word)) name;
           taken = λ p within. counts p within room;
-          given = λ p within. adds p within ∙ ap (λ n. names_for p s.given ++ cond (peer == p) (given_at_once word (Some n)) []) name;
+          given = λ p within.
+              adds p within
+              ∙ (ap (λ (ns : List ℕ). names_for p s.given ++ cond (peer == p) ns []) (sym gives)
+              ∙ ap (λ n. names_for p s.given ++ cond (peer == p) (given_by_frame s.state peer (Some n) frame word) []) name);
         });
   }
 

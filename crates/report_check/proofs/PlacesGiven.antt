@@ -8,11 +8,11 @@ use Rattle.board_model.specs.Answer.{answer, refusal, unless_refused}
 use Rattle.board_model.specs.CallChanges.{success_changes, success_returned}
 use Rattle.board_model.specs.Change.{changed_all}
 use Rattle.board_model.specs.Deeds.{Deed, looks_back, puts_owed, looks_ahead, takes, calls, after_deeds, along}
-use Rattle.board_model.specs.Given.{frames_from, names_given}
+use Rattle.board_model.specs.Returns.{names_given}
 use Rattle.board_model.specs.Journal.{PlainAnswer, PlainEntry, Taken, Visit, again, called, put, refuses, turned, waits}
 use Rattle.board_model.specs.JournalDeeds.{call_deeds, deeds_along, entry_deeds, named_deeds, names_from}
 use Rattle.board_model.specs.LinkedBoard.{Differ}
-use Rattle.board_model.specs.State.{DomainState}
+use Rattle.board_model.specs.State.{DomainState, frames_from}
 use Rattle.board_model.specs.Step.{Allowed, RunState, after, call_at, next_line}
 use Rattle.board_model.specs.Traffic.{taken_from, takes_from, takes_in as frames_in}
 use Rattle.board_model.specs.Unnamed.{no_names, unnamed}

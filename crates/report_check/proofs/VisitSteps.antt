@@ -2,12 +2,11 @@
 use Rattle.std.proofs.Common.{◌≡◌, ℕ, zero, suc, ◌+◌, ◌-◌, ◌≤◌, min, arith, take, replicate, Bool, true, false, cond, List, [], ◌∷◌, ◌++◌, length, map, drop, None, Some, IfOk, Result, Ok, Err, refl, sym, ap, ◌∙◌, subst, eq-eqb}
 use Rattle.std.specs.Prelude.{option_map, ◌==◌, nat_lt}
 use Rattle.std.proofs.lemmas.Bool.{cond_both}
-use Rattle.mc_base.specs.Reading.{reading}
 use Rattle.mc_base.specs.declared.fate.Fate.{Fate}
 use Rattle.board_model.specs.Journal.{Line, put_line, take_line, taken_line, looked, back_line, see_line, Taken, taken, Visit, visit_lines}
 use Rattle.board_model.specs.State.{Peer, DomainState, peer_of, held_from}
 use Rattle.board_model.specs.Change.{first_put, owed_put, buffers_back, changed}
-use Rattle.board_model.specs.TakenFrames.{row_of}
+use Rattle.board_model.specs.TakenFrames.{row_from}
 use Rattle.board_model.specs.Deeds.{Deed, looks_back, puts_owed, looks_ahead, takes, after_deed, after_deeds}
 use Rattle.board_model.specs.Turn.{turn_limit, due_frames, nameless, takes_named, visit_deeds}
 use Rattle.board_model.proofs.DeedJoins.{after-join}
@@ -41,14 +40,14 @@ puts-next s u t l m n peer most p frame (Ok is) at owed met rest =
 
 -- ---- frames that are taken
 
-pub takes-missed : (s t : NamedState) (l m : LinesLeft) (peer : ℕ) (frame : List ℕ) (fate : Fate) (fs : List (List ℕ)) → fate ≡ (row_of (plain s) peer None (reading frame)).word → Meets l m (take_line peer frame fate ∷ []) false → TakesDone s t l m peer (due_takes (plain s) peer (frame ∷ fs)) false
+pub takes-missed : (s t : NamedState) (l m : LinesLeft) (peer : ℕ) (frame : List ℕ) (fate : Fate) (fs : List (List ℕ)) → fate ≡ (row_from (plain s) peer None frame).word → Meets l m (take_line peer frame fate ∷ []) false → TakesDone s t l m peer (due_takes (plain s) peer (frame ∷ fs)) false
 takes-missed s t l m peer frame fate fs is missed =
     let ts : List Taken = due_takes (plain s) peer (frame ∷ fs) in
-    let word : Fate = (row_of (plain s) peer None (reading frame)).word in
+    let word : Fate = (row_from (plain s) peer None frame).word in
     done-missed s t l m (takes_named nameless peer ts) (take_line peer frame word ∷ []) (map (taken_line peer) (due_takes (after_deed (plain s) (takes peer None frame word)) peer fs))
     (subst (λ w. Meets l m (take_line peer frame w ∷ []) false) is missed)
 
-pub takes-next : {E : Type 0} (s u t : NamedState) (l m n : LinesLeft) (peer : ℕ) (frame : List ℕ) (fate : Fate) (fs : List (List ℕ)) (r : Result Bool E) → fate ≡ (row_of (plain s) peer None (reading frame)).word → GoesOn s u (takes peer None frame fate ∷ []) → Meets l m (take_line peer frame fate ∷ []) true → IfOk r (λ is. TakesDone u t m n peer (due_takes (plain u) peer fs) is) → IfOk r (λ is. TakesDone s t l n peer (due_takes (plain s) peer (frame ∷ fs)) is)
+pub takes-next : {E : Type 0} (s u t : NamedState) (l m n : LinesLeft) (peer : ℕ) (frame : List ℕ) (fate : Fate) (fs : List (List ℕ)) (r : Result Bool E) → fate ≡ (row_from (plain s) peer None frame).word → GoesOn s u (takes peer None frame fate ∷ []) → Meets l m (take_line peer frame fate ∷ []) true → IfOk r (λ is. TakesDone u t m n peer (due_takes (plain u) peer fs) is) → IfOk r (λ is. TakesDone s t l n peer (due_takes (plain s) peer (frame ∷ fs)) is)
 takes-next s u t l m n peer frame fate fs (Err e) is at met rest = tt
 takes-next s u t l m n peer frame fate fs (Ok b) is at met rest =
     subst (λ w. TakesDone s t l n peer (taken frame w ∷ due_takes (after_deed (plain s) (takes peer None frame w)) peer fs) b) is

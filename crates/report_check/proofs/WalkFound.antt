@@ -9,7 +9,7 @@ use Rattle.board_model.specs.declared.scenario.CallLine.{CallLine}
 use Rattle.board_model.specs.declared.scenario.DomainLine.{DomainLine}
 use Rattle.board_model.specs.declared.scenario.Scenario.{Scenario}
 use Rattle.board_model.specs.Deeds.{along}
-use Rattle.board_model.specs.Given.{names_given}
+use Rattle.board_model.specs.Returns.{names_given}
 use Rattle.board_model.specs.Journal.{Line, PlainEntry, Taken}
 use Rattle.board_model.specs.JournalDeeds.{opened}
 use Rattle.board_model.specs.LinkedBoard.{IsLinkedBoard}

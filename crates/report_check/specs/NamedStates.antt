@@ -5,7 +5,7 @@ use Rattle.std.specs.Prelude.{◌≡◌, ℕ, ◌+◌, ◌^◌, ◌<◌, ◌==�
 use Rattle.std.specs.List.{flat_map}
 use Rattle.board_model.specs.declared.scenario.CallLine.{CallLine}
 use Rattle.board_model.specs.Deeds.{Deed, takes, after_deeds, along}
-use Rattle.board_model.specs.Given.{names_given}
+use Rattle.board_model.specs.Returns.{names_given}
 use Rattle.board_model.specs.Journal.{PlainEntry, turned, called, Visit}
 use Rattle.board_model.specs.JournalDeeds.{call_deeds}
 use Rattle.board_model.specs.State.{DomainState}

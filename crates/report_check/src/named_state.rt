@@ -1,13 +1,12 @@
 //! A domain's state in which each frame is named by its place among those taken from its peer, and what was given back.
 
-ghost use Rattle.std.specs.Prelude.{◌≡◌, ◌+◌, ◌^◌, ◌==◌, ◌∷◌, [], ◌<◌, ℕ, None, Some, IfOk, OnOk, if◌then◌else◌, slice_index};
+ghost use Rattle.std.specs.Prelude.{◌≡◌, ◌+◌, ◌^◌, ◌==◌, ◌∷◌, [], ◌<◌, ℕ, None, IfOk, OnOk, if◌then◌else◌, slice_index};
 ghost use Rattle.board_model.specs.Answer.{refusal};
 ghost use Rattle.board_model.specs.Dealing.{keeps_buffer as stays};
 ghost use Rattle.board_model.specs.Deeds.{calls, takes};
-ghost use Rattle.board_model.specs.Given.{given_at_once};
+ghost use Rattle.board_model.specs.Returns.{given_at_once};
 ghost use Rattle.board_model.specs.Journal.{PlainAnswer};
-ghost use Rattle.board_model.specs.TakenFrames.{row_of};
-ghost use Rattle.mc_base.specs.Reading.{reading};
+ghost use Rattle.board_model.specs.TakenFrames.{row_from};
 ghost use Rattle.report_replay.specs.Effects.{HasOwnAddresses};
 ghost use Rattle.report_replay.specs.Naming.{AddsBy};
 ghost use Rattle.report_replay.specs.PlainCalls.{plain_call};
@@ -42,7 +41,7 @@ impl NamedState {
     /// Takes a frame that was shown from a peer, by the name of its place, and returns its word. Where its buffer is let go, its place is noted.
     pub(crate) fn take(&mut self, alloc: Global, peer: u8, frame: &[u8]) -> Result<Fate, NoMemory>
         requires { peer < 8 }
-        ensures word { IfOk result (λ word. word ≡ (row_of (plain self.old) peer None (reading frame.now)).word) }
+        ensures word { IfOk result (λ word. word ≡ (row_from (plain self.old) peer None frame.now).word) }
         ensures goes { IfOk result (λ word. GoesOn self.old self.new (takes peer None frame.now word ∷ [])) }
     {
         let place = self.taken[usize::from(peer)];
@@ -79,7 +78,7 @@ fn count_one(taken: &mut [u32; 8], peer: u8)
 
 /// Notes the place of a frame from a peer, where its word lets go of its buffer.
 fn note_at_once(given: &mut FrameNames, word: Fate, peer: u8, place: u32) -> Result<(), NoMemory>
-    ensures { OnOk result (AddsBy (λ p. if peer == p then given_at_once word (Some place) else []) given.old given.new) }
+    ensures { OnOk result (AddsBy (λ p. if peer == p then given_at_once word (place ∷ []) else []) given.old given.new) }
 {
     if keeps_buffer(word) {
         return Ok(());
@@ -91,5 +90,5 @@ fn note_at_once(given: &mut FrameNames, word: Fate, peer: u8, place: u32) -> Res
 fn keeps_buffer(word: Fate) -> bool
     ensures { result ≡ stays word }
 {
-    matches!(word, Fate::Queued | Fate::Handed)
+    matches!(word, Fate::Queued | Fate::Handed | Fate::Part)
 }

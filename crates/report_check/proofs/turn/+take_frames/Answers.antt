@@ -1,8 +1,7 @@
 use Rattle.std.proofs.Common.{◌≡◌, ◌≤◌, ℕ, ◌-◌, Bool, true, List, [], ◌∷◌, Bor, IfOk, Result, None, length, get_or, map, take, drop, subst, arith}
-use Rattle.mc_base.specs.Reading.{reading}
 use Rattle.mc_base.specs.declared.fate.Fate.{Fate}
 use Rattle.board_model.specs.Journal.{take_line}
-use Rattle.board_model.specs.TakenFrames.{row_of}
+use Rattle.board_model.specs.TakenFrames.{row_from}
 use Rattle.board_model.specs.Deeds.{takes}
 use Rattle.report_text.specs.StepPass.{due_takes}
 use Rattle.report_text.proofs.LeftLemmas.{whole}
@@ -17,7 +16,7 @@ use Rattle.report_check.proofs.turn.+take_frames.Goals as goal
 abbrev frames_of : List (Bor (List ℕ)) → List (List ℕ)
 frames_of lines = map (λ l. frame_told l.now) lines
 
-by-first : {E : Type 0} (s u t : NamedState) (l m n : LinesLeft) (peer : ℕ) (fate : Fate) (lines : List (Bor (List ℕ))) (d : Bor (List ℕ)) (frame : List ℕ) (r : Result Bool E) → 1 ≤ length lines → frame ≡ frame_told (get_or lines 0 d).now → fate ≡ (row_of (plain s) peer None (reading frame)).word → GoesOn s u (takes peer None frame fate ∷ []) → Meets l m (take_line peer frame fate ∷ []) true → IfOk r (λ is. TakesDone u t m n peer (due_takes (plain u) peer (frames_of (take (length lines - 1) (drop 1 lines)))) is) → IfOk r (λ is. TakesDone s t l n peer (due_takes (plain s) peer (frames_of lines)) is)
+by-first : {E : Type 0} (s u t : NamedState) (l m n : LinesLeft) (peer : ℕ) (fate : Fate) (lines : List (Bor (List ℕ))) (d : Bor (List ℕ)) (frame : List ℕ) (r : Result Bool E) → 1 ≤ length lines → frame ≡ frame_told (get_or lines 0 d).now → fate ≡ (row_from (plain s) peer None frame).word → GoesOn s u (takes peer None frame fate ∷ []) → Meets l m (take_line peer frame fate ∷ []) true → IfOk r (λ is. TakesDone u t m n peer (due_takes (plain u) peer (frames_of (take (length lines - 1) (drop 1 lines)))) is) → IfOk r (λ is. TakesDone s t l n peer (due_takes (plain s) peer (frames_of lines)) is)
 by-first s u t l m n peer fate [] d frame r some is word at met rest = absurd (omega arith)
 by-first s u t l m n peer fate (k ∷ ks) d frame r some is word at met rest =
     subst (λ f. IfOk r (λ is. TakesDone s t l n peer (due_takes (plain s) peer (f ∷ frames_of ks)) is)) is
