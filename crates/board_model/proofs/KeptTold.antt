@@ -61,7 +61,7 @@ brings_it (is_faulty f) e = absurd cc
 brings_it (announces text address there) e = absurd cc
 brings_it (says a b l) e = absurd cc
 
-not_stray : (s : DomainState) (q : ℕ) (name : Option ℕ) (frame : List ℕ) (word : Fate) → MayDo s (takes q name frame word) → NotStray (takes q name frame word) → IsHeld (coming_from s q frame)
+pub not_stray : (s : DomainState) (q : ℕ) (name : Option ℕ) (frame : List ℕ) (word : Fate) → MayDo s (takes q name frame word) → NotStray (takes q name frame word) → IsHeld (coming_from s q frame)
 not_stray s q name frame word may never part = go (coming_from s q frame).part refl
   where
     go : (o : Option Part) → (coming_from s q frame).part ≡ o → is_open o ≡ true

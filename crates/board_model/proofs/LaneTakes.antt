@@ -280,7 +280,7 @@ all_left n peer differs (h ∷ hs) = go (h.peer == peer) refl (all_left n peer d
     go true is rest = omega (arith, number-cons n h hs, ap one_if (ap (λ m. m == n) (eqb-true h.peer peer is) ∙ differs), rest)
     go false is rest = omega (arith, number-cons n h hs, number-cons n h (filter (λ x. not (holds_from peer x)) hs), rest)
 
-held-kept : (s : DomainState) (cs : List Change) → AllByRecursion IsNoTake cs → (changed_all s cs).held ≡ s.held
+pub held-kept : (s : DomainState) (cs : List Change) → AllByRecursion IsNoTake cs → (changed_all s cs).held ≡ s.held
 held-kept s [] are = refl
 held-kept s (c ∷ cs) are = held-kept (changed s c) cs are.1 ∙ one c are.0
   where

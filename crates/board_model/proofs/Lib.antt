@@ -171,3 +171,4 @@ pub mod ChannelPair
 pub mod ListsOne
 pub mod ChannelBoard
 pub mod ChannelLaw
+pub mod ClosedStates

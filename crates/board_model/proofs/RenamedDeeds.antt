@@ -125,7 +125,7 @@ module _ (names : ℕ → ℕ → ℕ) (naming : ℕ → Option ℕ → Option �
   -- ---- deeds
 
   module _ (t : DomainState) where
-    held_renamed : (peer : ℕ) (hs : List HeldFrame) → map (λ h. h.name) (filter (holds_from peer) (map (renamed_held names) hs)) ≡ map (names peer) (map (λ h. h.name) (filter (holds_from peer) hs))
+    pub held_renamed : (peer : ℕ) (hs : List HeldFrame) → map (λ h. h.name) (filter (holds_from peer) (map (renamed_held names) hs)) ≡ map (names peer) (map (λ h. h.name) (filter (holds_from peer) hs))
     held_renamed peer [] = refl
     held_renamed peer (h ∷ hs) = go (h.peer == peer) refl (held_renamed peer hs)
       where

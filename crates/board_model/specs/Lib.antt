@@ -64,3 +64,4 @@ pub mod JournalForm
 pub mod JournalParts
 pub mod JournalLaws
 pub mod Fragments
+pub mod ClosedStates
