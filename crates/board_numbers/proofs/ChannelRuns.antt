@@ -7,7 +7,7 @@ use Rattle.board_model.specs.Scenario.{Lane, lanes}
 use Rattle.board_model.specs.LinkedBoard.{IsLinkedBoard}
 use Rattle.board_model.specs.Traffic.{put_to, taken_from}
 use Rattle.board_model.specs.Board.{DomainJournal, journal_in, journal_of, LaneFits, IsBoardRun}
-use Rattle.board_model.specs.Deeds.{takes, along}
+use Rattle.board_model.specs.Deeds.{along}
 use Rattle.board_model.specs.JournalDeeds.{deeds_of, opened}
 use Rattle.board_model.proofs.BoardsLanes.{lane_between, lane-found}
 use Rattle.board_model.proofs.ChannelBoard.{JournalRun}

@@ -1,23 +1,24 @@
 -- What receivers' closes dropped of a channel, deed by deed: the frame that a close puts, and the number that it answers.
-use Rattle.std.proofs.Common.{◌≡◌, ℕ, Bool, true, false, not, ◌&&◌, cond, List, [], ◌∷◌, map, length, Option, None, Some, refl, sym, ap, ◌∙◌, subst, arith}
+use Rattle.std.proofs.Common.{◌≡◌, ℕ, Bool, true, false, not, ◌&&◌, cond, List, [], ◌∷◌, ◌++◌, map, flat_map, length, Option, None, Some, refl, sym, ap, ◌∙◌, subst, arith}
 use Rattle.std.specs.Prelude.{◌==◌}
 use Rattle.std.specs.List.{AllByRecursion}
-use Rattle.mc_base.specs.Letter.{accept, reject, fields_of, spelling, recv_close}
+use Rattle.mc_base.specs.Letter.{Carrier, of_message, of_packet, carried, accept, reject, fields_of, spelling, recv_close}
 use Rattle.mc_base.specs.Frame.{made}
-use Rattle.mc_base.specs.Reading.{Reading, reading}
+use Rattle.mc_base.specs.Reading.{Reading, is_faulty, announces, says, brings, reading}
 use Rattle.mc_base.specs.declared.channel.Reason.{Reason}
 use Rattle.mc_base.specs.declared.channel.Side.TheVariants.{Sender, Receiver}
 use Rattle.mc_base.specs.declared.name.Local.{Local}
 use Rattle.mc_base.specs.declared.refusal.Refusal.{Refusal}
 use Rattle.mc_base.specs.declared.refusal.Refusal.TheVariants.{NotConnected, ChanDirection}
-use Rattle.board_model.specs.Answer.{local, channel_at, end_holds, holds, words_of, refusal, unless_refused, answer_by, success, success_posts, success_puts, puts, put_of, post, over_channel}
+use Rattle.board_model.specs.Answer.{local, channel_at, end_holds, holds, words_of, refusal, unless_refused, answer_by, success, success_posts, success_puts, puts, puts_of, over_channel}
 use Rattle.board_model.specs.CallChanges.{at_live}
 use Rattle.board_model.specs.ChannelEnds.{closes, same_side, hears_from}
 use Rattle.board_model.specs.Channels.{contents_of, lost_by, is_numbered}
 use Rattle.board_model.specs.Deeds.{Deed, calls, MayDo}
 use Rattle.board_model.specs.DomainCall.{DomainCall, create_at, delete_at, lookup_of, send_from, receive_at, request_at, available_at, connect_from, open_at, packet_from, lend_at, packet_request_at, release_of, scalar_from, scalar_at, close_at, test_of, wait_for, cancel_of, raw_to, turn_alone}
 use Rattle.board_model.specs.Journal.{PlainAnswer, refuses}
-use Rattle.board_model.specs.State.{Item, ChannelEnd, Endpoint, DomainState, Announcement, Reply, Peer, announcing, replying, owed_to, letter_by, is_at, live_at, queue_at, queue_in, channel_in}
+use Rattle.board_model.specs.Parts.{coming}
+use Rattle.board_model.specs.State.{Item, Part, ChannelEnd, Endpoint, DomainState, Announcement, Reply, Peer, announcing, replying, owed_to, letter_by, is_at, live_at, queue_at, queue_in, channel_in}
 use Rattle.board_model.specs.Tallies.{number_told}
 use Rattle.board_model.proofs.ChannelWords.{contents_if}
 use Rattle.board_model.proofs.HearingItems.{bound_contents}
@@ -26,6 +27,8 @@ use Rattle.board_model.proofs.MessageAlls.{all-append, all-found}
 use Rattle.board_model.proofs.MessageLists.{get-position}
 use Rattle.board_model.proofs.OrderLookups.{none_holds}
 use Rattle.board_model.proofs.OrderSound.{Sound, Bound, sound_bound}
+use Rattle.board_model.proofs.PartLetters.{FramesSaid, said-once}
+use Rattle.board_model.proofs.PartReadings.{coming-holds}
 use Rattle.board_model.proofs.SendingCalls.{Reads}
 use Rattle.board_model.proofs.SendingDeeds.{ReadsDeed}
 use Rattle.board_numbers.specs.Items.{close_said, closes_channel}
@@ -70,6 +73,31 @@ module _ (n : ℕ) where
   pub owed-closes-none : (d : ℕ) (p : Peer) → AllByRecursion ClosesNone (owed_to d p)
   owed-closes-none d p = all-append ClosesNone (map (announcing d) p.announcements) (map replying p.replies) (announcements_none d p.announcements) (replies_none p.replies)
 
+-- ---- a close says so, whatever part is open before it
+
+carried_none : (s d : ℕ) (k : Carrier) (bytes : List ℕ) → close_said (says s d (carried k bytes)) ≡ None
+carried_none s d (of_message priority) bytes = refl
+carried_none s d (of_packet m) bytes = refl
+
+close_same : (o : Option Part) (r : Reading) → close_said (coming o r).reading ≡ close_said r
+close_same o (brings s d q) = coming-holds (λ r. close_said r ≡ None) carried_none (λ a b p. refl) o (brings s d q) refl
+close_same o (is_faulty f) = refl
+close_same o (announces text address there) = refl
+close_same o (says s d l) = refl
+
+same_length : (b c : Bool) → cond {A = List ℕ} b (0 ∷ []) [] ++ [] ≡ cond c (0 ∷ []) [] → b ≡ c
+same_length true true e = refl
+same_length false false e = refl
+same_length true false e = absurd cc
+same_length false true e = absurd cc
+
+said_close : (n a b m : ℕ) → FramesSaid a b (recv_close m) (made a b (spelling (recv_close m)) ∷ []) → closes_channel n (made a b (spelling (recv_close m))) ≡ (m == n)
+said_close n a b m said =
+    let closing : Reading → List ℕ = λ r. cond (is_numbered n (close_said r)) (0 ∷ []) [] in
+    let frame : List ℕ = made a b (spelling (recv_close m)) in
+    ap (is_numbered n) (sym (close_same None (reading frame)))
+    ∙ same_length (is_numbered n (close_said (coming None (reading frame)).reading)) (m == n) (said-once closing (λ s d q. refl) a b (recv_close m) (frame ∷ []) said)
+
 -- ---- one close
 
 module _ (o n : ℕ) where
@@ -106,17 +134,18 @@ module _ (o n : ℕ) where
     at = local node port
 
     closed_here : (e : Endpoint) (c : ChannelEnd) → live_at s at ≡ Some e → e.channel ≡ Some c → same_side c.side Receiver ≡ true → AllByRecursion Reads (over_channel (Some e) (Some c) recv_close) →
-        cond (closing_put false (map put_of (over_channel (Some e) (Some c) recv_close))) (length e.queue) 0 ≡ length (contents_of o n e.queue)
+        cond (closing_put false (flat_map puts_of (over_channel (Some e) (Some c) recv_close))) (length e.queue) 0 ≡ length (contents_of o n e.queue)
     closed_here e c live has side read =
         let bound : Bound e.queue (Some c) = subst (Bound e.queue) has (sound_bound s sound (is_at at) e live) in
         let own : c.owner ≡ c.peer = subst IsOwned has (all-found (λ (x : Endpoint). IsOwned x.channel) (is_at at) s.endpoints e owned live) side in
-        let tells : closes_channel n (put_of (post c.peer e.address c.peer_address (recv_close c.number))).1 ≡ (c.number == n) = ap (λ r. is_numbered n (close_said r)) read.0 in
-        let test : (c.peer == o && closes_channel n (put_of (post c.peer e.address c.peer_address (recv_close c.number))).1) ≡ hears_from o n c
+        let frame : List ℕ = made e.address c.peer_address (spelling (recv_close c.number)) in
+        let tells : closes_channel n frame ≡ (c.number == n) = said_close n e.address c.peer_address c.number read.0 in
+        let test : (c.peer == o && closes_channel n frame) ≡ hears_from o n c
         = ap (λ b. c.peer == o && b) tells ∙ (ap (λ p. p == o && c.number == n) (sym own) ∙ (and_turned (c.owner == o) (c.number == n) ∙ sym (ap (λ b. b && (c.number == n && c.owner == o)) side))) in
         ap (λ b. cond b (length e.queue) 0) test ∙ (sym (if_length (hears_from o n c) e.queue) ∙ ap length (sym (bound_contents o n e.queue (Some c) bound)))
 
     closed_at : (x : Option Endpoint) → live_at s at ≡ x → (y : Option ChannelEnd) → channel_in x ≡ y → end_holds (closes Receiver) y NotConnected ≡ false → end_holds (closes Receiver) y ChanDirection ≡ false → AllByRecursion Reads (over_channel x y recv_close) →
-        cond (closing_put false (map put_of (over_channel x y recv_close))) (length (queue_in x)) 0 ≡ length (at_live x (λ e. contents_of o n e.queue))
+        cond (closing_put false (flat_map puts_of (over_channel x y recv_close))) (length (queue_in x)) 0 ≡ length (at_live x (λ e. contents_of o n e.queue))
     closed_at x live None has connected direction read = absurd cc
     closed_at None live (Some c) has connected direction read = absurd cc
     closed_at (Some e) live (Some c) has connected direction read = closed_here e c live has (not_false (same_side c.side Receiver) direction) read

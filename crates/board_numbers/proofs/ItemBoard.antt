@@ -3,7 +3,7 @@ use Rattle.std.proofs.Common.{◌≡◌, ℕ, ◌+◌, ◌≤◌, ◌<◌, ◌^�
 use Rattle.std.specs.Prelude.{◌==◌, ◌&&◌, count_by, slice_get}
 use Rattle.std.specs.List.{AllByRecursion}
 use Rattle.std.proofs.lemmas.Bool.{eq-eqb}
-use Rattle.mc_base.specs.Reading.{reading}
+use Rattle.mc_base.specs.declared.fate.Fate.{Fate}
 use Rattle.board_model.specs.declared.scenario.Scenario.{Scenario}
 use Rattle.board_model.specs.Scenario.{script, neighbours}
 use Rattle.board_model.specs.LinkedBoard.{IsLinkedBoard}
@@ -16,17 +16,20 @@ use Rattle.board_model.specs.Answer.{local}
 use Rattle.board_model.specs.CallChanges.{at_end, at_channel}
 use Rattle.board_model.specs.Journal.{PlainAnswer, agrees}
 use Rattle.board_model.specs.DomainCall.{DomainCall, packet_from, scalar_from}
-use Rattle.board_model.specs.Deeds.{Deed, looks_back, puts_owed, looks_ahead, takes, calls, after_deed, along}
+use Rattle.board_model.specs.Deeds.{Deed, looks_back, puts_owed, looks_ahead, takes, calls, after_deed, MayDo, AllMayDo, along}
 use Rattle.board_model.specs.JournalDeeds.{deeds_of, opened, left_in}
+use Rattle.board_model.specs.Parts.{coming_from, part_of, readings, part_after, said_from}
 use Rattle.board_model.specs.State.{DomainState, Endpoint, ChannelEnd, queue_in, live_at}
 use Rattle.board_model.proofs.ChannelLaw.{every-channel-is-kept}
 use Rattle.board_model.proofs.ChannelLists.{letters-contents, takes-along}
 use Rattle.board_model.proofs.ChannelPair.{lane_order, aim, passed}
-use Rattle.board_model.proofs.ChannelWords.{not_begun, letters, contents, InOrder, way_of}
-use Rattle.board_model.proofs.DeedRuns.{frames_if, puts_by, takes_by}
-use Rattle.board_model.proofs.HearingLaw.{in_order-parts, letters-append, contents-append, came_on, opening_sound, IsSmallFrame}
+use Rattle.board_model.proofs.ChannelWords.{not_begun, Sent, letters, letters_of, contents, InOrder, way_of}
+use Rattle.board_model.proofs.DeedRuns.{frames_if, puts_by, takes_by, says_by}
+use Rattle.board_model.proofs.HearingLaw.{in_order-parts, letters_of-append, contents-append, came_on, opening_sound, IsSmallFrame}
 use Rattle.board_model.proofs.HearingSmall.{small_puts}
-use Rattle.board_model.proofs.ListsCounts.{one_if}
+use Rattle.board_model.proofs.KeptLines.{IsHeld}
+use Rattle.board_model.proofs.KeptTold.{not_stray}
+use Rattle.board_model.proofs.ListsCounts.{one_if, count-cons}
 use Rattle.board_model.proofs.MessageAlls.{all-at, all-parts, all-weaken}
 use Rattle.board_model.proofs.MessageOnce.{total, total-each, total-sum, length-joined}
 use Rattle.std.proofs.lemmas.Simd.{map-map}
@@ -36,53 +39,61 @@ use Rattle.board_model.proofs.ListsOne.{all-any, differ-one, joined-one}
 use Rattle.board_model.proofs.PlaceBoards.{rising_differ}
 use Rattle.board_model.proofs.OneLane.{Aim, no_aim, aimed_at}
 use Rattle.board_model.proofs.OrderSerials.{Serials, succeeds, all_succeed}
+use Rattle.board_model.proofs.PartLaw.{journal_closed}
+use Rattle.board_model.proofs.PartReadings.{AllSmooth, smooth-front, readings-append}
+use Rattle.board_model.proofs.PartRuns.{said_along}
 use Rattle.board_model.proofs.RunDeeds.{allowed-all}
 use Rattle.board_numbers.specs.Items.{is_item_put, is_item_taken, is_item_lost, carries_item}
 use Rattle.board_numbers.proofs.ChannelRuns.{IsPlaced, deeds-front, each_placed}
 use Rattle.board_numbers.proofs.ClosedDeeds.{close_lost}
 use Rattle.board_numbers.proofs.ClosedLines.{closed_in}
 use Rattle.board_numbers.proofs.ClosedRuns.{all-fit, run-told}
-use Rattle.board_numbers.proofs.ItemLines.{item_length, came_deed, lost_deed, came-told, lost-told}
-use Rattle.board_numbers.proofs.ItemPuts.{data_on, items-put}
+use Rattle.board_numbers.proofs.ItemLines.{came_deed, lost_deed, came-told, lost-told}
+use Rattle.board_numbers.proofs.ItemPuts.{items_on, items-put}
+use Rattle.board_numbers.proofs.ItemsSaid.{item-said, items-said}
 use Rattle.board_numbers.proofs.ItemQueues.{hears, Left, left-once, queued-length, unnamed-queue}
 
 -- ---- deeds
 
 module _ (o n : ℕ) where
-  came_length : (ds : List Deed) → length (came_on o n ds) ≡ total (came_deed o n) ds
-  came_length ds = ap (λ (xs : List (List ℕ)). length xs) (letters-contents n (flat_map (takes_by o) ds)) ∙ go ds
+  came_frames : (ds : List Deed) → count_by (carries_item n) (flat_map (takes_by o) ds) ≡ total (came_deed o n) ds
+  came_frames [] = refl
+  came_frames (takes p name frame word ∷ ds) = omega (arith, here (p == o) (flat_map (takes_by o) ds), came_frames ds)
     where
-      here : (b : Bool) (f : List ℕ) (rest : List (List ℕ)) → length (data_on n (frames_if b (f ∷ []) ++ rest)) ≡ one_if (b && carries_item n f) + length (data_on n rest)
-      here true f rest = omega (arith, length-append (data_said n (reading f)) (data_on n rest), item_length n f)
-      here false f rest = omega arith
+      here : (b : Bool) (rest : List (List ℕ)) → count_by (carries_item n) (frames_if b (frame ∷ []) ++ rest) ≡ one_if (b && carries_item n frame) + count_by (carries_item n) rest
+      here true rest = count-cons (carries_item n) frame rest
+      here false rest = omega arith
+  came_frames (looks_back p k ∷ ds) = omega (arith, came_frames ds)
+  came_frames (puts_owed p f ∷ ds) = omega (arith, came_frames ds)
+  came_frames (looks_ahead p k ∷ ds) = omega (arith, came_frames ds)
+  came_frames (calls node call a ∷ ds) = omega (arith, came_frames ds)
 
-      go : (ds : List Deed) → length (data_on n (flat_map (takes_by o) ds)) ≡ total (came_deed o n) ds
-      go [] = refl
-      go (takes p name frame word ∷ ds) = omega (arith, here (p == o) frame (flat_map (takes_by o) ds), go ds)
-      go (looks_back p k ∷ ds) = omega (arith, go ds)
-      go (puts_owed p f ∷ ds) = omega (arith, go ds)
-      go (looks_ahead p k ∷ ds) = omega (arith, go ds)
-      go (calls node call a ∷ ds) = omega (arith, go ds)
-
-  lost_length : (s : DomainState) (ds : List Deed) → length (along (lost_by o n) s ds) ≡ total (lost_deed o n) ds + length (along (close_lost o n) s ds)
-  lost_length s [] = refl
-  lost_length s (takes p name frame word ∷ ds) =
-      omega (arith, length-append (lost_by o n s (takes p name frame word)) (along (lost_by o n) (after_deed s (takes p name frame word)) ds), here (is_lost word) (p == o), lost_length (after_deed s (takes p name frame word)) ds)
+  -- an item that is lost is no part that is held, and is not stray
+  frame_lost : (s : DomainState) (p : ℕ) (name : Option ℕ) (frame : List ℕ) (word : Fate) → MayDo s (takes p name frame word) → length (lost_by o n s (takes p name frame word)) ≡ lost_deed o n (takes p name frame word)
+  frame_lost s p name frame word may = go (is_lost word) refl (p == o)
     where
-      here : (a b : Bool) → length (cond (a && b) (data_said n (reading frame)) []) ≡ one_if (a && (b && carries_item n frame))
-      here true true = item_length n frame
-      here true false = refl
-      here false b = refl
-  lost_length s (calls node call a ∷ ds) =
+      held : is_lost word ≡ true → IsHeld (coming_from s p frame)
+      held lost = not_stray s p name frame word may (λ stray. let clash : true ≡ false = sym lost ∙ ap is_lost stray in absurd cc)
+
+      go : (a : Bool) → is_lost word ≡ a → (b : Bool) → length (cond (a && b) (data_said n (said_from s p frame)) []) ≡ one_if (a && (b && carries_item n frame))
+      go true lost true = item-said n (part_of s p) frame (held lost)
+      go true lost false = refl
+      go false lost b = refl
+
+  lost_length : (s : DomainState) (ds : List Deed) → AllMayDo s ds → length (along (lost_by o n) s ds) ≡ total (lost_deed o n) ds + length (along (close_lost o n) s ds)
+  lost_length s [] may = refl
+  lost_length s (takes p name frame word ∷ ds) may =
+      omega (arith, length-append (lost_by o n s (takes p name frame word)) (along (lost_by o n) (after_deed s (takes p name frame word)) ds), frame_lost s p name frame word may.0, lost_length (after_deed s (takes p name frame word)) ds may.1)
+  lost_length s (calls node call a ∷ ds) may =
       omega (
         arith,
         length-append (lost_by o n s (calls node call a)) (along (lost_by o n) (after_deed s (calls node call a)) ds),
         length-append (close_lost o n s (calls node call a)) (along (close_lost o n) (after_deed s (calls node call a)) ds),
-        lost_length (after_deed s (calls node call a)) ds,
+        lost_length (after_deed s (calls node call a)) ds may.1,
       )
-  lost_length s (looks_back p k ∷ ds) = omega (arith, lost_length (after_deed s (looks_back p k)) ds)
-  lost_length s (puts_owed p f ∷ ds) = omega (arith, lost_length (after_deed s (puts_owed p f)) ds)
-  lost_length s (looks_ahead p k ∷ ds) = omega (arith, lost_length (after_deed s (looks_ahead p k)) ds)
+  lost_length s (looks_back p k ∷ ds) may = omega (arith, lost_length (after_deed s (looks_back p k)) ds may.1)
+  lost_length s (puts_owed p f ∷ ds) may = omega (arith, lost_length (after_deed s (puts_owed p f)) ds may.1)
+  lost_length s (looks_ahead p k ∷ ds) may = omega (arith, lost_length (after_deed s (looks_ahead p k)) ds may.1)
 
 -- ---- a board
 
@@ -102,8 +113,35 @@ module _ (s : Scenario) (js : List DomainJournal) (board : IsLinkedBoard s) (run
     abbrev came : DomainJournal → ℕ
     came j = count_by (is_item_taken o n) (joined j.entries)
 
-    came_told : (j : DomainJournal) → length (came_on o n (deeds_of s j)) ≡ came j
-    came_told j = came_length o n (deeds_of s j) ∙ came-told o n (script s j.line.domain) [] (start s j.line) j.entries
+    -- what the frames say that a domain takes from the owner, and those left on the lane behind them
+    abbrev front : DomainJournal → List (List ℕ)
+    front j = flat_map (takes_by o) (deeds_of s j)
+
+    abbrev left_on : (j : DomainJournal) → Placed j → List Sent
+    left_on j at = letters_of n (readings (part_after None (front j)) (deeds-front s js board run j jo at on).0)
+
+    said : (j : DomainJournal) → Placed j → readings None (front j) ≡ along (says_by o) (opened s j) (deeds_of s j)
+    said j at = said_along o j.line.domain j.line.nodes (neighbours s j.line) (deeds_of s j) (at.0.known o)
+
+    smooth : (j : DomainJournal) → Placed j → AllSmooth None (front j)
+    smooth j at =
+        let forth = deeds-front s js board run j jo at on in
+        smooth-front None (front j) forth.0 (subst (AllSmooth None) (on.0.puts j.line.domain ∙ forth.1) (journal_closed s js board run jo on.1 j.line.domain).smooth)
+
+    split : (j : DomainJournal) (at : Placed j) → letters n (along (puts_by j.line.domain) (opened s jo) sends) ≡ letters_of n (along (says_by o) (opened s j) (deeds_of s j)) ++ left_on j at
+    split j at =
+        let forth = deeds-front s js board run j jo at on in
+        ap (letters n) forth.1
+        ∙ (ap (letters_of n) (readings-append None (front j) forth.0)
+        ∙ (letters_of-append n (readings None (front j)) (readings (part_after None (front j)) forth.0)
+        ∙ ap (λ rs. letters_of n rs ++ left_on j at) (said j at)))
+
+    came_told : (j : DomainJournal) → Placed j → length (came_on o n (opened s j) (deeds_of s j)) ≡ came j
+    came_told j at =
+        ap (λ (xs : List (List ℕ)). length xs) (letters-contents n (along (says_by o) (opened s j) (deeds_of s j)) ∙ ap (flat_map (data_said n)) (sym (said j at)))
+        ∙ (items-said n None (front j) (smooth j at)
+        ∙ (came_frames o n (deeds_of s j)
+        ∙ came-told o n (script s j.line.domain) [] (start s j.line) j.entries))
 
     abbrev kept_at : DomainJournal → ℕ
     kept_at j = length (taken_on s o n j) + length (lost_in s o n j) + length (queued_in s o n j)
@@ -112,19 +150,19 @@ module _ (s : Scenario) (js : List DomainJournal) (board : IsLinkedBoard s) (run
     journal_came j at =
         let forth = deeds-front s js board run j jo at on in
         let back = deeds-front s js board run jo j on at in
-        let front = flat_map (takes_by o) (deeds_of s j) in
-        let all = passed o n jo.line.nodes (neighbours s jo.line) sends on.0.may on.0.read on.0.few j.line.domain j.line.nodes (neighbours s j.line) (deeds_of s j) at.0.may at.0.few forth back in
-        let rest = contents (letters n forth.0) in
-        let split : contents (letters n (along (puts_by j.line.domain) (opened s jo) sends)) ≡ came_on o n (deeds_of s j) ++ rest
-        = ap (λ (fs : List (List ℕ)). contents (letters n fs)) forth.1 ∙ (ap contents (letters-append n front forth.0) ∙ contents-append (letters n front) (letters n forth.0)) in
+        let all = passed o n jo.line.nodes (neighbours s jo.line) sends on.0.may on.0.read on.0.few j.line.domain j.line.nodes (neighbours s j.line) (deeds_of s j) (at.0.known o) at.0.may at.0.few forth back in
+        let came_there = came_on o n (opened s j) (deeds_of s j) in
+        let rest = contents (left_on j at) in
+        let parts : contents (letters n (along (puts_by j.line.domain) (opened s jo) sends)) ≡ came_there ++ rest
+        = ap contents (split j at) ∙ contents-append (letters_of n (along (says_by o) (opened s j) (deeds_of s j))) (left_on j at) in
         let taken = takes-along o n (opened s j) (deeds_of s j) in
         let lost = lost_in s o n j in
         let queued = queued_in s o n j in
         omega (
           arith,
-          sym (came_told j),
-          ap (λ (xs : List (List ℕ)). length xs) (sym split ∙ (all.kept ∙ ap (λ ts. ts ++ (lost ++ (queued ++ rest))) taken)),
-          length-append (came_on o n (deeds_of s j)) rest,
+          sym (came_told j at),
+          ap (λ (xs : List (List ℕ)). length xs) (sym parts ∙ (all.kept ∙ ap (λ ts. ts ++ (lost ++ (queued ++ rest))) taken)),
+          length-append came_there rest,
           length-append (taken_on s o n j) (lost ++ (queued ++ rest)),
           length-append lost (queued ++ rest),
           length-append queued rest,
@@ -144,7 +182,7 @@ module _ (s : Scenario) (js : List DomainJournal) (board : IsLinkedBoard s) (run
         let fit = all-fit (all_succeed ds) start_state ds at.0.may (opening_sound j.line.domain j.line.nodes (neighbours s j.line)) tt serials (omega arith) at.0.read in
         omega (
           arith,
-          lost_length o n start_state ds,
+          lost_length o n start_state ds at.0.may,
           lost-told o n lines [] (start s j.line) j.entries,
           run-told o n lines [] [] (start s j.line) start_state j.entries refl (allowed-all lines (start s j.line) (left_by s j.line j.entries) j.entries at.1.is_run.steps) fit refl,
         )
@@ -155,10 +193,9 @@ module _ (s : Scenario) (js : List DomainJournal) (board : IsLinkedBoard s) (run
     journal_left : (j : DomainJournal) → Placed j → Left o n (left_in s j)
     journal_left j at =
         let forth = deeds-front s js board run j jo at on in
-        let front = flat_map (takes_by o) (deeds_of s j) in
         let order = lane_order o n jo.line.nodes (neighbours s jo.line) sends on.0.may on.0.read on.0.few j.line.domain in
-        let first = (in_order-parts not_begun (letters n front) (letters n forth.0) (subst (InOrder not_begun) (ap (letters n) forth.1 ∙ letters-append n front forth.0) order)).0 in
-        let small = (all-parts IsSmallFrame front forth.0 (subst (AllByRecursion IsSmallFrame) forth.1 (small_puts j.line.domain (opened s jo) sends on.0.may))).0 in
+        let first = (in_order-parts not_begun (letters_of n (along (says_by o) (opened s j) (deeds_of s j))) (left_on j at) (subst (InOrder not_begun) (split j at) order)).0 in
+        let small = (all-parts IsSmallFrame (front j) forth.0 (subst (AllByRecursion IsSmallFrame) forth.1 (small_puts j.line.domain (opened s jo) sends on.0.may))).0 in
         left-once o n j.line.domain j.line.nodes (neighbours s j.line) (deeds_of s j) at.0.may small at.0.few first
 
     journal_queued : (j : DomainJournal) → Placed j → length (queued_in s o n j) ≡ queued j
@@ -171,19 +208,22 @@ module _ (s : Scenario) (js : List DomainJournal) (board : IsLinkedBoard s) (run
     abbrev by_owner : List (List ℕ)
     by_owner = along (accepted_by n) (opened s jo) sends
 
-    sent_is : (p : ℕ) → data_on n (put_to p jo.entries) ≡ contents (letters n (along (puts_by p) (opened s jo) sends))
-    sent_is p = ap (data_on n) (on.0.puts p) ∙ sym (letters-contents n (along (puts_by p) (opened s jo) sends))
+    sent_is : (p : ℕ) → items_on n (put_to p jo.entries) ≡ length (contents (letters n (along (puts_by p) (opened s jo) sends)))
+    sent_is p =
+        sym (items-said n None (put_to p jo.entries) (journal_closed s js board run jo on.1 p).smooth)
+        ∙ ap (λ (xs : List (List ℕ)). length xs) (ap (λ (fs : List (List ℕ)). flat_map (data_said n) (readings None fs)) (on.0.puts p) ∙ sym (letters-contents n (readings None (along (puts_by p) (opened s jo) sends))))
 
     accepted_told : length by_owner ≡ count_by (is_item_put n) (joined jo.entries)
     accepted_told = go (aim o n jo.line.nodes (neighbours s jo.line) sends on.0.may on.0.read on.0.few)
       where
         go : Aim (λ p. way_of not_begun (letters n (along (puts_by p) (opened s jo) sends))) (λ p. contents (letters n (along (puts_by p) (opened s jo) sends))) by_owner → length by_owner ≡ count_by (is_item_put n) (joined jo.entries)
         go (no_aim way none empty) =
-            let told = items-put n 0 jo.entries (λ p far. sent_is p ∙ none p) in
-            ap (λ (xs : List (List ℕ)). length xs) empty ∙ (sym (ap (λ (xs : List (List ℕ)). length xs) (sent_is 0 ∙ none 0)) ∙ sym told)
+            let nothing : (p : ℕ) → items_on n (put_to p jo.entries) ≡ 0 = λ p. sent_is p ∙ ap (λ (xs : List (List ℕ)). length xs) (none p) in
+            let told = items-put n 0 jo.entries (λ p far. nothing p) in
+            ap (λ (xs : List (List ℕ)). length xs) empty ∙ (sym (nothing 0) ∙ sym told)
         go (aimed_at q begun same other) =
-            let told = items-put n q jo.entries (λ p far. sent_is p ∙ (other p far).1) in
-            ap (λ (xs : List (List ℕ)). length xs) (sym same ∙ sym (sent_is q)) ∙ sym told
+            let told = items-put n q jo.entries (λ p far. sent_is p ∙ ap (λ (xs : List (List ℕ)). length xs) (other p far).1) in
+            ap (λ (xs : List (List ℕ)). length xs) (sym same) ∙ (sym (sent_is q) ∙ sym told)
 
     -- the deeds that are accepted are calls that succeed
     one_few : (b : Bool) (c : List ℕ) → length (cond b (c ∷ []) []) ≤ 1

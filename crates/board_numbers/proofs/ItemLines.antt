@@ -1,10 +1,8 @@
 -- Counts over the deeds of a journal are counts over its lines, where frames taken alone are counted.
-use Rattle.std.proofs.Common.{◌≡◌, ℕ, Bool, true, false, ◌&&◌, cond, List, [], ◌∷◌, ◌++◌, length, flat_map, Option, None, Some, refl, sym, ap, ◌∙◌, arith}
+use Rattle.std.proofs.Common.{◌≡◌, ℕ, Bool, false, ◌&&◌, cond, List, [], ◌∷◌, ◌++◌, flat_map, Option, None, Some, refl, sym, ap, ◌∙◌, arith}
 use Rattle.std.specs.Prelude.{count_by, ◌==◌}
-use Rattle.mc_base.specs.Letter.{PlainLetter, packet, scalar}
-use Rattle.mc_base.specs.Reading.{Reading, says, reading}
 use Rattle.board_model.specs.declared.scenario.CallLine.{CallLine}
-use Rattle.board_model.specs.Channels.{data_in, data_said, is_numbered, is_lost}
+use Rattle.board_model.specs.Channels.{is_lost}
 use Rattle.board_model.specs.DomainCall.{DomainCall}
 use Rattle.board_model.specs.Deeds.{Deed, takes, calls}
 use Rattle.board_model.specs.Journal.{PlainEntry, PlainAnswer, turned, put, again, waits, called, refuses, Line, put_line, again_line, wait_line, call_line, joined}
@@ -15,7 +13,7 @@ use Rattle.board_model.proofs.ListsJoined.{entry_lines, JoinsWeighNothing}
 use Rattle.board_model.proofs.KeptTold.{Counts, turn-count}
 use Rattle.board_model.proofs.MessageLines.{joined-count}
 use Rattle.board_model.proofs.MessageOnce.{total, total-append}
-use Rattle.board_numbers.specs.Items.{item_letter, item_said, carries_item, is_item_taken, is_item_lost}
+use Rattle.board_numbers.specs.Items.{carries_item, is_item_taken, is_item_lost}
 
 -- ---- a count of frames taken
 
@@ -43,27 +41,6 @@ module _ (w : Deed → ℕ) (test : Line → Bool) (counts : Counts w test) (joi
   deeds-told lines before r es = along_count lines before r es ∙ sym (joined-count test joins es)
 
 -- ---- the items of a channel
-
--- a frame has one item of the channel or none
-letter_length : (n : ℕ) (l : PlainLetter) → length (data_in n l) ≡ one_if (is_numbered n (item_letter l))
-letter_length n (packet m content) = go (m == n)
-  where
-    go : (b : Bool) → length (cond b (content ∷ []) []) ≡ one_if b
-    go true = refl
-    go false = refl
-letter_length n (scalar m bits value) = go (m == n) _
-  where
-    go : (b : Bool) (content : List ℕ) → length (cond b (content ∷ []) []) ≡ one_if b
-    go true content = refl
-    go false content = refl
-letter_length n other = refl
-
-pub said_length : (n : ℕ) (r : Reading) → length (data_said n r) ≡ one_if (is_numbered n (item_said r))
-said_length n (says source destination l) = letter_length n l
-said_length n other = refl
-
-pub item_length : (n : ℕ) (frame : List ℕ) → length (data_said n (reading frame)) ≡ one_if (carries_item n frame)
-item_length n frame = said_length n (reading frame)
 
 module _ (o n : ℕ) where
   -- by deeds: those that come, and those that are dropped as they come

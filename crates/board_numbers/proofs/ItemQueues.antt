@@ -6,13 +6,13 @@ use Rattle.std.proofs.lemmas.Bool.{eqb-true, eq-eqb, cases_Bool}
 use Rattle.mc_base.specs.Limits.{first_address}
 use Rattle.board_model.specs.ChannelEnds.{hears_from}
 use Rattle.board_model.specs.Channels.{contents_of}
-use Rattle.board_model.specs.Deeds.{Deed, looks_back, puts_owed, looks_ahead, takes, calls, AllMayDo, after_deeds}
+use Rattle.board_model.specs.Deeds.{Deed, looks_back, puts_owed, looks_ahead, takes, calls, AllMayDo, after_deeds, along}
 use Rattle.board_model.specs.LinkedBoard.{Differ}
 use Rattle.board_model.specs.Scenario.{Neighbour}
 use Rattle.board_model.specs.State.{Item, ChannelEnd, Endpoint, DomainState, opening, new_peer, endpoint_of, queue_in, is_numbered}
 use Rattle.board_model.specs.Unnamed.{unnamed, unnamed_end, unnamed_item}
-use Rattle.board_model.proofs.ChannelWords.{not_begun, letters, InOrder, end_is, contents_if, Way}
-use Rattle.board_model.proofs.DeedRuns.{frames_if, takes_by}
+use Rattle.board_model.proofs.ChannelWords.{not_begun, letters_of, InOrder, end_is, contents_if, Way}
+use Rattle.board_model.proofs.DeedRuns.{frames_if, takes_by, says_by}
 use Rattle.board_model.proofs.Hearing.{heard, heard_of, Hearing, unheard, refused, heard_at, Lists, NoAccept, owed_replies}
 use Rattle.board_model.proofs.HearingDeeds.{IsSmallFrom}
 use Rattle.board_model.proofs.HearingItems.{bound_contents}
@@ -140,7 +140,7 @@ module _ (o n : ℕ) where
     pub sound : Sound s
     pub once : HeardOnce s
 
-  pub left-once : (number nodes : ℕ) (neighbours : List Neighbour) (ds : List Deed) → AllMayDo (opening number nodes neighbours) ds → AllByRecursion IsSmallFrame (flat_map (takes_by o) ds) → all_succeed ds + 1 < 2 ^ 64 → InOrder not_begun (letters n (flat_map (takes_by o) ds)) → Left (after_deeds (opening number nodes neighbours) ds)
+  pub left-once : (number nodes : ℕ) (neighbours : List Neighbour) (ds : List Deed) → AllMayDo (opening number nodes neighbours) ds → AllByRecursion IsSmallFrame (flat_map (takes_by o) ds) → all_succeed ds + 1 < 2 ^ 64 → InOrder not_begun (letters_of n (along (says_by o) (opening number nodes neighbours) ds)) → Left (after_deeds (opening number nodes neighbours) ds)
   left-once number nodes neighbours ds may small few order =
       let start = opening number nodes neighbours in
       let serials : Serials (all_succeed ds) start = record { differ = tt; below = tt; small = omega arith } in

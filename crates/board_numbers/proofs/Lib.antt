@@ -10,6 +10,7 @@ pub mod TallyLemmas
 pub mod CountLemmas
 pub mod CarryLemmas
 pub mod ItemLines
+pub mod ItemsSaid
 pub mod ClosedLines
 pub mod ReceiverEnds
 pub mod ClosedDeeds

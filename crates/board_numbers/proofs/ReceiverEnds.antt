@@ -2,7 +2,7 @@
 use Rattle.std.proofs.Common.{◌≡◌, ℕ, true, Bool, not, List, [], ◌∷◌, ◌++◌, drop, Option, Some, None, refl, sym, subst}
 use Rattle.std.specs.Prelude.{find}
 use Rattle.std.specs.List.{AllByRecursion}
-use Rattle.mc_base.specs.Reading.{Reading, reading}
+use Rattle.mc_base.specs.Reading.{Reading}
 use Rattle.mc_base.specs.declared.channel.Side.{Side}
 use Rattle.mc_base.specs.declared.channel.Side.TheVariants.{Sender, Receiver}
 use Rattle.mc_base.specs.declared.refusal.Refusal.{Refusal}
@@ -11,11 +11,12 @@ use Rattle.board_model.specs.DomainCall.{DomainCall, create_at, delete_at, looku
 use Rattle.board_model.specs.State.{ChannelEnd, Endpoint, DomainState, is_at, has_address_of, live_at}
 use Rattle.board_model.specs.Change.{Change, endpoint_made, endpoint_gone, item_queued, best_gone, oldest_gone, channel_set, queue_dropped, item_handed, item_lost, names_known, name_found, endpoint_with, with_queue, with_channel, without_queue, changed, changed_all}
 use Rattle.board_model.specs.ChannelEnds.{same_side}
+use Rattle.board_model.specs.Parts.{Came, came_from, said_from}
 use Rattle.board_model.specs.TakenFrames.{rejecting, accepting, acting, item_of, row_of}
 use Rattle.board_model.specs.Answer.{local, refusal, unless_refused}
 use Rattle.board_model.specs.CallChanges.{closing, success_changes}
 use Rattle.board_model.specs.Deeds.{Deed, looks_back, puts_owed, looks_ahead, takes, calls, happens_by, after_deed}
-use Rattle.board_model.proofs.LaneRows.{Deals, stays, learns, forgets, hands, queues, loses, rejects, accepts, acts, acting-all, row-deals}
+use Rattle.board_model.proofs.LaneRows.{Deals, stays, strays, awaits, learns, forgets, hands, queues, loses, rejects, accepts, acts, acting-all, row-deals}
 use Rattle.board_model.proofs.MessageAlls.{all-append, all-filter, all-found, all-changed-first}
 use Rattle.board_model.proofs.StateEnds.{end-holds, lending-holds, tested-holds}
 use Rattle.board_model.proofs.HonestDeeds.{live_holds}
@@ -55,7 +56,7 @@ module _ (s : DomainState) (owned : OwnedEnds s) where
   end_owned : (p : Endpoint → Bool) (e : Endpoint) (c : ChannelEnd) → find p s.endpoints ≡ Some e → e.channel ≡ Some c → IsOwned (Some c)
   end_owned p e c found has = subst IsOwned has (all-found OfEnd p s.endpoints e owned found)
 
-  frame_owned : (q : ℕ) (name : Option ℕ) (r : Reading) → AllByRecursion FitsOwned (row_of s q name r).happens
+  frame_owned : (q : ℕ) (name : Came) (r : Reading) → AllByRecursion FitsOwned (row_of s q name r).happens
   frame_owned q name r = go (row-deals s q name r)
     where
       by : (cs : List Change) → (row_of s q name r).happens ≡ cs → AllByRecursion FitsOwned cs → AllByRecursion FitsOwned (row_of s q name r).happens
@@ -63,6 +64,8 @@ module _ (s : DomainState) (owned : OwnedEnds s) where
 
       go : Deals s q name r (row_of s q name r) → AllByRecursion FitsOwned (row_of s q name r).happens
       go (stays happens word) = by [] happens tt
+      go (strays source at p is none happens word) = by [] happens tt
+      go (awaits source at p is some happens word) = by [] happens tt
       go (learns text n a names is learned_so happens word) = by (names_known q names ∷ name_found n a ∷ []) happens (tt, (tt, tt))
       go (forgets text n a names is forgotten_so happens word) = by (names_known q names ∷ []) happens (tt, tt)
       go (hands source at l e is found carried waits happens word) = by (item_handed at (item_of q name source l) ∷ []) happens (tt, tt)
@@ -109,5 +112,5 @@ module _ (s : DomainState) (owned : OwnedEnds s) where
   owned-deed (looks_back q n) = owned
   owned-deed (puts_owed q frame) = owned
   owned-deed (looks_ahead q n) = owned
-  owned-deed (takes q name frame word) = owned_changes s (happens_by s (takes q name frame word)) (tt, frame_owned q name (reading frame)) owned
+  owned-deed (takes q name frame word) = owned_changes s (happens_by s (takes q name frame word)) (tt, frame_owned q (came_from s q name frame) (said_from s q frame)) owned
   owned-deed (calls node call a) = owned_changes s (happens_by s (calls node call a)) (call_owned node call (refusal s node call)) owned

@@ -1,6 +1,5 @@
 -- The domains that some text tells, of whatever length, are those of a board without links and calls.
-use Rattle.std.proofs.Common.{◌≡◌, ℕ, ◌+◌, true, ◌&&◌, [], Option, Some, None, arith}
-use Rattle.std.specs.Prelude.{◌==◌}
+use Rattle.std.proofs.Common.{ℕ, ◌+◌, true, ◌&&◌, [], Option, Some, None, arith}
 use Rattle.std.specs.List.{list_all}
 use Rattle.std.proofs.lemmas.Bool.{and_parts}
 use Rattle.board_model.specs.declared.scenario.Scenario.{Scenario}

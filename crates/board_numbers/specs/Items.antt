@@ -2,9 +2,9 @@
 -- that were dropped, as they came or when their receiver closed.
 -- Source: docs/FORMATS.md, "Journal text". A receiver's close has two lines: the frame of its RecvClose, and the answer with the number
 -- of the items that it dropped.
-use Rattle.std.specs.Prelude.{ℕ, ◌+◌, Bool, false, ◌&&◌, ◌==◌, List, [], ◌∷◌, Option, None, Some, if◌then◌else◌}
-use Rattle.mc_base.specs.Letter.{PlainLetter, packet, scalar, recv_close}
-use Rattle.mc_base.specs.Reading.{Reading, says, reading}
+use Rattle.std.specs.Prelude.{ℕ, ◌+◌, Bool, true, false, ◌&&◌, ◌==◌, List, [], ◌∷◌, length, Option, None, Some, if◌then◌else◌}
+use Rattle.mc_base.specs.Letter.{Carrier, of_packet, Piece, Saying, whole, in_part, PlainLetter, packet, scalar, recv_close}
+use Rattle.mc_base.specs.Reading.{Reading, says, brings, reading}
 use Rattle.board_model.specs.Channels.{is_numbered, is_lost}
 use Rattle.board_model.specs.Journal.{Line, put_line, take_line, call_line}
 use Rattle.board_model.specs.Tallies.{number_told}
@@ -19,8 +19,22 @@ abbrev pub close_letter : PlainLetter → Option ℕ
 close_letter (recv_close number) = Some number
 close_letter other = None
 
+-- an item that comes in parts is told at the last one
+abbrev pub is_last : Piece → Bool
+is_last q = q.offset + length q.content == q.total
+
+-- what is said whole, or by its last part
+abbrev pub ends_so : Saying → Bool
+ends_so (whole l) = true
+ends_so (in_part q) = is_last q
+
+abbrev pub item_carrier : Carrier → Option ℕ
+item_carrier (of_packet number) = Some number
+item_carrier other = None
+
 abbrev pub item_said : Reading → Option ℕ
 item_said (says source destination l) = item_letter l
+item_said (brings source destination q) = if is_last q then item_carrier q.carrier else None
 item_said other = None
 
 abbrev pub close_said : Reading → Option ℕ

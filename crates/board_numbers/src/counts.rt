@@ -2,15 +2,16 @@
 
 ghost use Rattle.std.specs.Prelude.{◌≡◌, ◌+◌, ◌<◌, ◌^◌, ◌==◌, ◌&&◌, ◌∷◌, ◌++◌, ℕ, List, [], is_none, slice_index};
 ghost use Rattle.mc_base.specs.FaultRow.{first_fault};
-ghost use Rattle.mc_base.specs.LetterFaults.{letter_faults};
+ghost use Rattle.mc_base.specs.LetterFaults.{fields_in, letter_faults};
 ghost use Rattle.mc_journal.specs.Entry.{line_of_entry};
 ghost use Rattle.board_model.specs.Journal.{Line};
-ghost use Rattle.board_model.specs.Messages.{carries_message as is_of_message};
+ghost use Rattle.board_model.specs.Messages.{carries_message as is_of_message, ends_item};
 ghost use Rattle.board_model.specs.Drops.{drops};
 ghost use Rattle.board_numbers.specs.Counts.{one_if, AreCounts, HaveRoom};
 
+use crate::parts::is_last;
 use bridge_frame::read_letter;
-use mc_base::{Fate, NAME_SERVICE_ADDRESS};
+use mc_base::{Fate, Letter, NAME_SERVICE_ADDRESS};
 use mc_journal::{Entry, Journal};
 use rpmsg_frame::decode;
 
@@ -81,21 +82,47 @@ fn add_one(numbers: &mut [u64; 8], domain: u8)
     }
 }
 
-/// Whether a frame is sound and carries a message. An announcement is known by its destination, address 53.
+/// Whether a frame is sound and carries a message, or the last part of one. An announcement is known by its destination, address 53.
 fn carries_message(frame: &[u8]) -> bool
     ensures { result ≡ is_of_message frame.now }
 {
     match decode(frame) {
-        Ok(frame) => frame.dst != NAME_SERVICE_ADDRESS && is_message(frame.payload),
+        Ok(frame) => frame.dst != NAME_SERVICE_ADDRESS && ends_message(frame.payload),
         Err(_) => false,
     }
 }
 
-/// Whether a payload is a sound letter, and one of kind 1, which is a message.
-fn is_message(payload: &[u8]) -> bool
-    ensures { result ≡ (is_none (first_fault (letter_faults payload.now)) && (slice_index payload.now 2 == 1)) }
+/// Whether a payload is a sound letter of kind 1, which is a message, whole or the last part of one.
+fn ends_message(payload: &[u8]) -> bool
+    ensures { result ≡ (is_none (first_fault (letter_faults payload.now)) && (slice_index payload.now 2 == 1 && ends_item (fields_in payload.now))) }
 {
-    payload.len() > 2 && payload[2] == 1 && read_letter(payload).is_ok()
+    payload.len() > 2 && payload[2] == 1 && ends_letter(payload)
+}
+
+/// Whether a payload is a sound letter, whole or the last part of one.
+fn ends_letter(payload: &[u8]) -> bool
+    ensures { result ≡ (is_none (first_fault (letter_faults payload.now)) && ends_item (fields_in payload.now)) }
+{
+    match read_letter(payload) {
+        Ok(
+            Letter::MsgPart {
+                total,
+                offset,
+                bytes,
+                ..
+            },
+        ) => is_last(total, offset, bytes),
+        Ok(
+            Letter::PacketPart {
+                total,
+                offset,
+                bytes,
+                ..
+            },
+        ) => is_last(total, offset, bytes),
+        Ok(_) => true,
+        Err(_) => false,
+    }
 }
 
 /// Whether a message that meets this fate is lost.

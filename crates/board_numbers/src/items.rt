@@ -1,6 +1,6 @@
 //! What the journals' entries of the items of channels come to in numbers.
 
-ghost use Rattle.std.specs.Prelude.{◌≡◌, ◌+◌, ◌<◌, ◌^◌, ◌==◌, ◌∷◌, ◌++◌, ℕ, List, [], IfOk, length, map, slice_index, if◌then◌else◌};
+ghost use Rattle.std.specs.Prelude.{◌≡◌, ◌+◌, ◌<◌, ◌^◌, ◌==◌, ◌∷◌, ◌++◌, ℕ, List, [], IfOk, Some, None, length, map, slice_index, if◌then◌else◌};
 ghost use Rattle.mc_base.specs.Reading.{reading};
 ghost use Rattle.mc_journal.specs.Entry.{line_of_entry};
 ghost use Rattle.board_model.specs.Channels.{is_lost as is_lost_fate};
@@ -10,6 +10,7 @@ ghost use Rattle.board_numbers.specs.ItemCounts.{AddsTold, ClosesBy, ClosesLast,
 
 use crate::adding::append;
 use crate::ended_domain::EndedDomain;
+use crate::parts::is_last;
 use mc_base::{Fate, Letter, NoMemory};
 use mc_journal::{Answer, Entry, Journal};
 use name_service::{Said, read_frame};
@@ -222,7 +223,7 @@ fn carried_in(entry: Entry<'_>) -> Carried
     }
 }
 
-/// What a frame carries.
+/// What a frame carries. An item that comes in parts is carried by the last one.
 fn carried_by(frame: &[u8]) -> Carried
     ensures item { result.item ≡ item_said (reading frame.now) }
     ensures close { result.close ≡ close_said (reading frame.now) }
@@ -233,6 +234,18 @@ fn carried_by(frame: &[u8]) -> Carried
             ..
         } => Carried {
             item: Some(channel),
+            close: None,
+        },
+        Said::Sends {
+            letter: Letter::PacketPart {
+                channel,
+                total,
+                offset,
+                bytes,
+            },
+            ..
+        } => Carried {
+            item: ended_on(channel, is_last(total, offset, bytes)),
             close: None,
         },
         Said::Sends {
@@ -247,6 +260,13 @@ fn carried_by(frame: &[u8]) -> Carried
             close: None,
         },
     }
+}
+
+/// The channel whose item a part ends, where it is the last.
+fn ended_on(channel: u32, last: bool) -> Option<u32>
+    ensures { result ≡ (if last then Some channel else None) }
+{
+    if last { Some(channel) } else { None }
 }
 
 /// Whether an item that meets this fate is lost.

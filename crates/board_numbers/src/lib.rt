@@ -13,6 +13,7 @@ mod ended_domain;
 mod items;
 mod number_lines;
 mod numbers;
+mod parts;
 mod tally;
 
 pub use adding::{add, append};

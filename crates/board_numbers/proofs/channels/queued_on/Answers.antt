@@ -1,4 +1,4 @@
-use Rattle.std.proofs.Common.{◌≡◌, get_or, map, ap, ◌∙◌, arith}
+use Rattle.std.proofs.Common.{◌≡◌, get_or, map, ap, arith}
 use Rattle.std.proofs.lemmas.List.Sums.{sum_by_more, sum_by_more_le}
 use Rattle.board_numbers.specs.ItemCounts.{queued_at}
 use Rattle.board_numbers.proofs.EachLemmas.{mapped-read, mapped-within}
