@@ -1,6 +1,6 @@
 -- Deeds with buffers' numbers for names are those of a journal by new names: the name of a place is the number of the buffer of the frame there.
 use Rattle.std.proofs.Common.{◌≡◌, ℕ, zero, suc, Bool, true, false, cond, List, [], ◌∷◌, ◌++◌, length, map, Option, None, Some, refl, ap, ap₂, sym, ◌∙◌, subst, arith, append_assoc, append-nil, length-append, eq-eqb}
-use Rattle.std.specs.Prelude.{◌==◌, slice_index, option_to_list, option_map}
+use Rattle.std.specs.Prelude.{◌==◌, slice_index, option_to_list}
 use Rattle.std.specs.List.{AllByRecursion}
 use Rattle.mc_base.specs.declared.fate.Fate.{Fate}
 use Rattle.board_model.specs.Deeds.{Deed, looks_back, puts_owed, looks_ahead, takes, calls}
@@ -69,7 +69,7 @@ module _ (all : List Deed) where
       ∙ ap (λ (b : Bool). all_named p done ++ (cond b (n ∷ []) [] ++ all_named p rest)) (eq-eqb q p peer))
       ∙ index-there (all_named p done) (all_named p rest) n (count_taken p before) (many p)) in
       record {
-        is = (λ i. takes (peer i) (Some (sym number i)) (frames i) (words i)) ∙ ap (λ (o : Option ℕ). takes p (option_map (name_at all p) o) frame word) (sym named);
+        is = (λ i. takes (peer i) (Some (sym number i)) (frames i) (words i)) ∙ ap (λ (o : Option ℕ). takes p (new_name (name_at all) p o) frame word) (sym named);
         counts = λ r. one_or_none (q == r) n ∙ ap (λ (k : ℕ). cond {A = ℕ} (k == r) 1 0) peer;
       }
 
