@@ -1,17 +1,18 @@
 -- The line of a frame, piece by piece, and what is told of a text.
 use Rattle.std.proofs.Common.{◌≡◌, ℕ, Bool, true, false, List, [], ◌∷◌, ◌++◌, Option, Some, None, refl, sym, ap, subst, ◌∙◌, append_assoc}
 use Rattle.std.specs.Prelude.{codes, decimal, IsSome, if◌then◌else◌}
-use Rattle.mc_base.specs.Letter.{PlainLetter, msg, connect, accept, reject, recv_open, send_open, packet, scalar, send_close, recv_close}
+use Rattle.mc_base.specs.Letter.{PlainLetter, msg, connect, accept, reject, recv_open, send_open, packet, scalar, send_close, recv_close, Carrier, of_message, of_packet, Saying, whole, in_part}
+use Rattle.mc_base.specs.Text.{hex_text}
 use Rattle.board_model.specs.Grammar.{spaced}
 use Rattle.scenario_cli.specs.Hex.{hex_fault, bytes_spelled}
 use Rattle.scenario_cli.specs.WrongText.{wrong_line}
-use Rattle.scenario_cli.specs.FrameText.{right_line, letter_words, announcement_words, frame_wrong, wrong_by, wrong_in, IsFrameText, TellsRight}
+use Rattle.scenario_cli.specs.FrameText.{right_line, letter_words, carrier_words, saying_words, announcement_words, frame_wrong, wrong_by, wrong_in, IsFrameText, TellsRight}
 
 -- the word and the addresses before the words of the content
 abbrev pub addresses : ℕ → ℕ → List ℕ
 addresses src dst = codes "right " ++ (decimal src ++ (32 ∷ (decimal dst ++ (32 ∷ []))))
 
-pub letter_line : (src dst : ℕ) (l : PlainLetter) → right_line src dst (letter_words l) ≡ addresses src dst ++ (spaced (letter_words l) ++ (10 ∷ []))
+letter_line : (src dst : ℕ) (l : PlainLetter) → right_line src dst (letter_words l) ≡ addresses src dst ++ (spaced (letter_words l) ++ (10 ∷ []))
 letter_line src dst (msg priority bytes) = simp append_assoc
 letter_line src dst (connect channel kind) = simp append_assoc
 letter_line src dst (accept channel) = simp append_assoc
@@ -22,6 +23,14 @@ letter_line src dst (packet channel bytes) = simp append_assoc
 letter_line src dst (scalar channel bits value) = simp append_assoc
 letter_line src dst (send_close channel) = simp append_assoc
 letter_line src dst (recv_close channel) = simp append_assoc
+
+pub saying_line : (src dst : ℕ) (s : Saying) → right_line src dst (saying_words s) ≡ addresses src dst ++ (spaced (saying_words s) ++ (10 ∷ []))
+saying_line src dst (whole l) = letter_line src dst l
+saying_line src dst (in_part p) = go p.carrier
+  where
+    go : (k : Carrier) → right_line src dst (carrier_words k ++ decimal p.total ∷ decimal p.offset ∷ hex_text p.content ∷ []) ≡ addresses src dst ++ (spaced (carrier_words k ++ decimal p.total ∷ decimal p.offset ∷ hex_text p.content ∷ []) ++ (10 ∷ []))
+    go (of_message priority) = simp append_assoc
+    go (of_packet channel) = simp append_assoc
 
 pub announcement_line : (src dst : ℕ) (name : List ℕ) (address : ℕ) (create : Bool) → right_line src dst (announcement_words name address create) ≡ addresses src dst ++ (spaced (announcement_words name address create) ++ (10 ∷ []))
 announcement_line src dst name address true = simp append_assoc

@@ -1,13 +1,13 @@
 -- What is told of a frame: its addresses and its content where it is sound, and else the place and the reason.
 -- Source: docs/FORMATS.md, "Text of a frame" and "Faults of a frame".
-use Rattle.std.specs.Prelude.{◌≡◌, ◌≢◌, ℕ, ◌*◌, Bool, List, [], ◌∷◌, codes, decimal, Option, Some, None, option_map, if◌then◌else◌}
+use Rattle.std.specs.Prelude.{◌≡◌, ◌≢◌, ℕ, ◌*◌, Bool, List, [], ◌∷◌, ◌++◌, codes, decimal, Option, Some, None, option_map, if◌then◌else◌}
 use Rattle.mc_base.specs.Limits.{name_service_address}
 use Rattle.mc_base.specs.Text.{hex_text}
 use Rattle.mc_base.specs.Frame.{IsFrame}
 use Rattle.mc_base.specs.Fault.{faults}
 use Rattle.mc_base.specs.FaultRow.{FaultRow, first}
 use Rattle.mc_base.specs.Announcement.{IsNs}
-use Rattle.mc_base.specs.Letter.{PlainLetter, msg, connect, accept, reject, recv_open, send_open, packet, scalar, send_close, recv_close, bytes_of_bits, IsLetter}
+use Rattle.mc_base.specs.Letter.{PlainLetter, msg, connect, accept, reject, recv_open, send_open, packet, scalar, send_close, recv_close, bytes_of_bits, Carrier, of_message, of_packet, Piece, Saying, whole, in_part, IsSaying}
 use Rattle.mc_base.specs.declared.fault.Fault.{Fault}
 use Rattle.board_model.specs.Grammar.{kind_text, line_of}
 use Rattle.board_model.specs.Dealing.{fault_word}
@@ -28,6 +28,18 @@ letter_words (scalar channel bits value) = codes "scalar" ∷ decimal channel �
 letter_words (send_close channel) = codes "send_close" ∷ decimal channel ∷ []
 letter_words (recv_close channel) = codes "recv_close" ∷ decimal channel ∷ []
 
+-- the words of a part: as those of its message or packet, with the bytes that the whole has and those that come before
+abbrev pub carrier_words : Carrier → List (List ℕ)
+carrier_words (of_message priority) = codes "msg_part" ∷ decimal priority ∷ []
+carrier_words (of_packet channel) = codes "packet_part" ∷ decimal channel ∷ []
+
+abbrev pub part_words : Piece → List (List ℕ)
+part_words p = carrier_words p.carrier ++ decimal p.total ∷ decimal p.offset ∷ hex_text p.content ∷ []
+
+abbrev pub saying_words : Saying → List (List ℕ)
+saying_words (whole l) = letter_words l
+saying_words (in_part p) = part_words p
+
 -- the words of an announcement; the name is told as its bytes
 abbrev pub announcement_words : List ℕ → ℕ → Bool → List (List ℕ)
 announcement_words name address create = codes "name" ∷ (if create then codes "create" else codes "destroy") ∷ name ∷ decimal address ∷ []
@@ -38,7 +50,7 @@ right_line src dst words = line_of (codes "right" ∷ decimal src ∷ decimal ds
 
 -- the line is that of what the frame says
 pub data IsFrameText (frame line : List ℕ) : Type 0 where
-  of_letter : (src dst : ℕ) (payload : List ℕ) (l : PlainLetter) → IsFrame frame src dst payload → dst ≢ name_service_address → IsLetter payload l → line ≡ right_line src dst (letter_words l) → IsFrameText frame line
+  of_letter : (src dst : ℕ) (payload : List ℕ) (s : Saying) → IsFrame frame src dst payload → dst ≢ name_service_address → IsSaying payload s → line ≡ right_line src dst (saying_words s) → IsFrameText frame line
   of_announcement : (src : ℕ) (payload name : List ℕ) (address : ℕ) (create : Bool) → IsFrame frame src name_service_address payload → IsNs payload name address create → line ≡ right_line src name_service_address (announcement_words name address create) → IsFrameText frame line
 
 abbrev pub fault_line : FaultRow Fault → List ℕ

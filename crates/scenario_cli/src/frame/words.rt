@@ -3,12 +3,12 @@
 ghost use Rattle.std.specs.Prelude.{◌≡◌, ◌≤◌, ◌*◌, ◌++◌, ◌∷◌, [], ℕ, length, codes, decimal, IsOk, OnErr, if◌then◌else◌};
 ghost use Rattle.mc_base.specs.Limits.{name_service_address};
 ghost use Rattle.mc_base.specs.Text.{hex_text};
-ghost use Rattle.mc_base.specs.Letter.{plain_letter, bytes_of_bits};
+ghost use Rattle.mc_base.specs.Letter.{saying_of, bytes_of_bits};
 ghost use Rattle.outer_io.specs.Faults.{HasCause};
 ghost use Rattle.outer_io.specs.Puts.{Puts};
 ghost use Rattle.outer_io.specs.Writes.{Writes, WritesStop};
 ghost use Rattle.board_model.specs.Grammar.{spaced};
-ghost use Rattle.scenario_cli.specs.FrameText.{letter_words, announcement_words, right_line};
+ghost use Rattle.scenario_cli.specs.FrameText.{saying_words, announcement_words, right_line};
 ghost use Rattle.scenario_cli.specs.Content.{content_line};
 
 use crate::frame::content::Content;
@@ -39,7 +39,7 @@ fn put_right<K: Sink>(out: &mut Writer<'_, K>, content: Content<'_>)
 }
 
 fn put_letter_line<K: Sink>(out: &mut Writer<'_, K>, src: u32, dst: u32, letter: &Letter<'_>)
-    ensures { Puts K.Sink out.old out.new (right_line src dst (letter_words (plain_letter letter.now))) }
+    ensures { Puts K.Sink out.old out.new (right_line src dst (saying_words (saying_of letter.now))) }
 {
     put_addresses(out, src, dst);
     put_letter(out, letter);
@@ -66,7 +66,7 @@ fn put_addresses<K: Sink>(out: &mut Writer<'_, K>, src: u32, dst: u32)
 }
 
 fn put_letter<K: Sink>(out: &mut Writer<'_, K>, letter: &Letter<'_>)
-    ensures { Puts K.Sink out.old out.new (spaced (letter_words (plain_letter letter.now))) }
+    ensures { Puts K.Sink out.old out.new (spaced (saying_words (saying_of letter.now))) }
 {
     match *letter {
         Letter::Msg { priority, bytes } => {
@@ -89,6 +89,21 @@ fn put_letter<K: Sink>(out: &mut Writer<'_, K>, letter: &Letter<'_>)
         } => put_scalar(out, channel, bits, value),
         Letter::SendClose { channel } => put_channel(out, b"send_close ", channel),
         Letter::RecvClose { channel } => put_channel(out, b"recv_close ", channel),
+        Letter::MsgPart {
+            priority,
+            total,
+            offset,
+            bytes,
+        } => {
+            let number = u32::from(priority.number());
+            put_part(out, b"msg_part ", number, total, offset, bytes)
+        }
+        Letter::PacketPart {
+            channel,
+            total,
+            offset,
+            bytes,
+        } => put_part(out, b"packet_part ", channel, total, offset, bytes),
     }
 }
 
@@ -118,6 +133,24 @@ fn put_bytes<K: Sink>(out: &mut Writer<'_, K>, word: &[u8], number: u32, bytes: 
     out.put_number(number as u64);
     out.put(b" ");
     out.put_hex(bytes);
+}
+
+/// A word with a blank, a number, how many bytes the whole has, how many of them come before, and bytes.
+fn put_part<K: Sink>(
+    out: &mut Writer<'_, K>,
+    word: &[u8],
+    number: u32,
+    total: u16,
+    offset: u16,
+    bytes: &[u8],
+)
+    ensures { Puts K.Sink out.old out.new (word.now ++ (decimal number ++ (32 ∷ (decimal total ++ (32 ∷ (decimal offset ++ (32 ∷ hex_text bytes.now))))))) }
+{
+    out.put(word);
+    out.put_number(number as u64);
+    out.put(b" ");
+    out.put_number(total as u64);
+    put_bytes(out, b" ", offset as u32, bytes);
 }
 
 fn put_scalar<K: Sink>(out: &mut Writer<'_, K>, channel: u32, bits: Bits, value: u64)

@@ -3,7 +3,7 @@ use Rattle.std.specs.Prelude.{option_map}
 use Rattle.mc_base.specs.Fault.{payload_faults}
 use Rattle.mc_base.specs.FaultRow.{first_fault, widened}
 use Rattle.mc_base.specs.Frame.{IsFrame}
-use Rattle.mc_base.specs.Letter.{plain_letter}
+use Rattle.mc_base.specs.Letter.{saying_of}
 use Rattle.mc_base.specs.LetterFaults.{letter_faults}
 use Rattle.mc_base.specs.Announcement.{announcement_faults}
 use Rattle.mc_base.specs.declared.fault.Fault.TheVariants as fault_of
@@ -27,7 +27,7 @@ returns-in-Err-clause-fault c =
 pub returns-in-Ok-read_letter-clause-sound : goal.returns-in-Ok-read_letter-clause-sound
 returns-in-Ok-read_letter-clause-sound c = λ bytes is.
     let f = c.args.frame in
-    of_letter f.src f.dst f.payload.now (plain_letter c.in-Ok-read_letter.letter) is c.if-dst-eq-NAME_SERVICE_ADDRESS.false c.in-Ok-read_letter.ensures.sound refl
+    of_letter f.src f.dst f.payload.now (saying_of c.in-Ok-read_letter.letter) is c.if-dst-eq-NAME_SERVICE_ADDRESS.false c.in-Ok-read_letter.ensures.sound refl
 
 pub returns-in-Err-read_letter-clause-fault : goal.returns-in-Err-read_letter-clause-fault
 returns-in-Err-read_letter-clause-fault c =
