@@ -1,5 +1,5 @@
 -- The two ends of a lane fit together by what their domains' journals tell: over a finished ring, and on a lane to oneself.
-use Rattle.std.proofs.Common.{◌≡◌, ℕ, ◌+◌, ◌≤◌, Bool, true, false, cond, List, [], ◌∷◌, ◌++◌, length, map, flat_map, filter, drop, sum, slice_index, sym, ap, ◌∙◌, subst, arith, append_assoc, append-nil, length-append}
+use Rattle.std.proofs.Common.{◌≡◌, ℕ, ◌+◌, ◌≤◌, Bool, true, false, cond, List, [], ◌∷◌, ◌++◌, length, map, flat_map, drop, sum, slice_index, sym, ap, ◌∙◌, subst, arith, append_assoc, append-nil, length-append}
 use Rattle.std.proofs.lemmas.List.{map-append, length-map}
 use Rattle.std.proofs.lemmas.List.Sums.{sum_by-cons}
 use Rattle.shared_words.specs.declared.view.Role.{Role}
@@ -12,10 +12,11 @@ use Rattle.lane_end.specs.ReceiveParts.{frames_taken, numbers_given}
 use Rattle.lane_end.specs.Loop.{Loop, new_loop}
 use Rattle.lane_end.specs.LaneRun.{IsLaneRun, SeesAtMost as SeeMovesAtMost}
 use Rattle.board_model.specs.declared.scenario.CallLine.{CallLine}
+use Rattle.board_model.specs.ClosedStates.{IsClosed}
 use Rattle.board_model.specs.Dealing.{keeps_buffer}
 use Rattle.board_model.specs.Journal.{PlainEntry, turned, put, again, waits, called, Visit, Taken}
 use Rattle.board_model.specs.Lists.{IsPrefix}
-use Rattle.board_model.specs.State.{Item, is_from}
+use Rattle.board_model.specs.State.{frames_from}
 use Rattle.board_model.specs.Step.{RunState, next_line, after}
 use Rattle.board_model.specs.Traffic.{visits_to, puts_in, takes_in, put_to, taken_from, returned_by, given, back_looks}
 use Rattle.board_model.specs.Board.{SeeAtMost, SeesAtMost}
@@ -65,9 +66,9 @@ past_visits total t (v ∷ vs) xs h =
     let same : (t + length v.takes) + length (flat_map (λ (u : Visit). u.takes) vs) ≡ t + length (flat_map (λ (u : Visit). u.takes) (v ∷ vs)) = omega (arith, length-append v.takes (flat_map (λ (u : Visit). u.takes) vs)) in
     record { sees = (first.0, more.sees); rest = subst (λ (k : ℕ). SeeMovesAtMost total k xs) same more.rest }
 
-past_back : (total t : ℕ) (items : List Item) (xs : List ReceiveMove) → SeeMovesAtMost total t (receives (map goes_back items) ++ xs) → SeeMovesAtMost total t xs
+past_back : (total t : ℕ) (names : List ℕ) (xs : List ReceiveMove) → SeeMovesAtMost total t (receives (map goes_back names) ++ xs) → SeeMovesAtMost total t xs
 past_back total t [] xs h = h
-past_back total t (i ∷ items) xs h = past_back total t items xs h
+past_back total t (n ∷ names) xs h = past_back total t names xs h
 
 -- of a journal
 sees_told : (total t : ℕ) (lines : List CallLine) (r : RunState) (p : ℕ) (es : List PlainEntry) → SeeMovesAtMost total t (receives (moves_told lines r p es)) → SeesAtMost p total t es
@@ -82,8 +83,8 @@ sees_told total t lines r p (again word ∷ es) h = sees_told total t lines (aft
 sees_told total t lines r p (waits k ∷ es) h = sees_told total t lines (after lines r (waits k)) p es h
 sees_told total t lines r p (called k a ∷ es) h =
     let more = moves_told lines (after lines r (called k a)) p es in
-    let items = filter (is_from p) (returned_by (next_line lines r) r) in
-    sees_told total t lines (after lines r (called k a)) p es (past_back total t items (receives more) (subst (SeeMovesAtMost total t) (receives-append (map goes_back items) more) h))
+    let names = frames_from p (returned_by (next_line lines r) r) in
+    sees_told total t lines (after lines r (called k a)) p es (past_back total t names (receives more) (subst (SeeMovesAtMost total t) (receives-append (map goes_back names) more) h))
 
 -- ---- a lane, by the journals of its two domains
 
@@ -93,13 +94,13 @@ pub record EntriesFit (lines : List CallLine) (r : RunState) (a b : ℕ) (sent g
   pub sees : SeesAtMost a (length (put_to b sent)) 0 got
   pub backs : sum (back_looks b sent) ≤ given lines r a got
 
-module _ (sender_lines receiver_lines : List CallLine) (sender_begun receiver_begun : RunState) (a b : ℕ) (sent got : List PlainEntry) (there back : List LaneMove)
+module _ (sender_lines receiver_lines : List CallLine) (sender_begun receiver_begun : RunState) (sender_closed : IsClosed sender_begun.state) (receiver_closed : IsClosed receiver_begun.state) (a b : ℕ) (sent got : List PlainEntry) (there back : List LaneMove)
     (sent_told : map unnumbered there ≡ moves_told sender_lines sender_begun b sent) (got_told : map unnumbered back ≡ moves_told receiver_lines receiver_begun a got) where
   out : HasTraffic sender_lines sender_begun b sent there
-  out = has_traffic sender_lines sender_begun b sent there sent_told
+  out = has_traffic sender_lines sender_begun b sent there sender_closed sent_told
 
   into : HasTraffic receiver_lines receiver_begun a got back
-  into = has_traffic receiver_lines receiver_begun a got back got_told
+  into = has_traffic receiver_lines receiver_begun a got back receiver_closed got_told
 
   fits_by : IsPrefix (contents (frames_taken (receives back))) (frames_sent (sends there)) → SeeMovesAtMost (length (frames_sent (sends there))) 0 (receives back) → sum (back_counts (sends there)) ≤ length (numbers_given (receives back)) → EntriesFit receiver_lines receiver_begun a b sent got
   fits_by first sees backs = record {
@@ -156,7 +157,7 @@ own_moved a b (receiver (Gave n) ∷ ms) moved =
     let rest = own_moved (loop_after a (receiver (Gave n))) b ms moved.1 in
     record { came = rest.came; gone = omega (arith, rest.gone, length-append a.back (n ∷ [])); shown = rest.shown }
 
-pub own_fits : (lines : List CallLine) (r : RunState) (d pool : ℕ) (es : List PlainEntry) (ms : List LaneMove) (l : Loop) → map unnumbered ms ≡ moves_told lines r d es → LoopMoved (new_loop pool) ms l → EntriesFit lines r d d es es
-own_fits lines r d pool es ms l told moved =
+pub own_fits : (lines : List CallLine) (r : RunState) (d pool : ℕ) (es : List PlainEntry) (ms : List LaneMove) (l : Loop) → IsClosed r.state → map unnumbered ms ≡ moves_told lines r d es → LoopMoved (new_loop pool) ms l → EntriesFit lines r d d es es
+own_fits lines r d pool es ms l closed told moved =
     let own = own_moved (new_loop pool) l ms moved in
-    fits_by lines lines r r d d es es ms ms told told (contents l.frames, own.came) (own.shown (length (frames_sent (sends ms))) 0 (omega arith)) (omega (arith, own.gone))
+    fits_by lines lines r r closed closed d d es es ms ms told told (contents l.frames, own.came) (own.shown (length (frames_sent (sends ms))) 0 (omega arith)) (omega (arith, own.gone))

@@ -5,6 +5,7 @@ use Rattle.std.proofs.Math.Seq.{drop-append_seam}
 use Rattle.std.proofs.lemmas.List.{length-map}
 use Rattle.board_model.specs.Journal.{Visit, Taken}
 use Rattle.board_model.specs.Loads.{Load, with_load}
+use Rattle.board_model.proofs.ClosedStates.{given_alone}
 use Rattle.board_model.proofs.WholeLoads.{load_on, loaded-with}
 use Rattle.board_model.proofs.WholeLanes.{refilled}
 use Rattle.board_model.proofs.WholeTakes.{frames_of, emptied}
@@ -33,14 +34,17 @@ near_now n own far a b = cond (a == n) (own b) (far a b)
 abbrev pub with_near : ℕ → Near → (ℕ → Near) → ℕ → Near
 with_near p new own q = cond (q == p) new (own q)
 
--- what a visit of a domain leaves on the lanes
+-- what a visit of a domain leaves on the lanes, by how many buffers it gives back, and where each frame gives back its own alone
+abbrev pub loads_with : ℕ → Visit → ℕ → List Load → List Load
+loads_with n v gives loads = with_load v.peer n (emptied gives v.takes) (with_load n v.peer (refilled v.owed) loads)
+
 abbrev pub loads_by : ℕ → Visit → List Load → List Load
-loads_by n v loads = with_load v.peer n (emptied v.takes) (with_load n v.peer (refilled v.owed) loads)
+loads_by n v loads = loads_with n v (given_alone v.takes) loads
 
 pub loaded-by : (n : ℕ) (v : Visit) (loads : List Load) (a b : ℕ) (l : Load) → load_on loads a b ≡ Some l →
-    (let put = cond ((a == n) && (b == v.peer)) (refilled v.owed l) l in load_on (loads_by n v loads) a b ≡ Some (cond ((a == v.peer) && (b == n)) (emptied v.takes put) put))
+    (let put = cond ((a == n) && (b == v.peer)) (refilled v.owed l) l in load_on (loads_by n v loads) a b ≡ Some (cond ((a == v.peer) && (b == n)) (emptied (given_alone v.takes) v.takes put) put))
 loaded-by n v loads a b l e =
-    loaded-with (emptied v.takes) (record { sender = λ x. refl; receiver = λ x. refl }) (with_load n v.peer (refilled v.owed) loads) v.peer n a b (cond ((a == n) && (b == v.peer)) (refilled v.owed l) l)
+    loaded-with (emptied (given_alone v.takes) v.takes) (record { sender = λ x. refl; receiver = λ x. refl }) (with_load n v.peer (refilled v.owed) loads) v.peer n a b (cond ((a == n) && (b == v.peer)) (refilled v.owed l) l)
     (loaded-with (refilled v.owed) (record { sender = λ x. refl; receiver = λ x. refl }) loads n v.peer a b l e)
 
 -- ---- one lane
@@ -67,9 +71,9 @@ module _ (loads loads' : List Load) (a b : ℕ) (v : Visit) where
   }
 
   -- the lane from the peer
-  lane-in : (from to new : Near) (h : LaneStands loads a b from to) → LinkVisited v to new → Exact v to from → load_on loads' a b ≡ Some (emptied v.takes h.load) → LaneStands loads' a b from new
+  lane-in : (from to new : Near) (h : LaneStands loads a b from to) → LinkVisited v to new → Exact v to from → load_on loads' a b ≡ Some (emptied (given_alone v.takes) v.takes h.load) → LaneStands loads' a b from new
   lane-in from to new h visited exact loaded = record {
-    load = emptied v.takes h.load;
+    load = emptied (given_alone v.takes) v.takes h.load;
     loaded = loaded;
     frames =
         exact.first ∙ (λ k. sym visited.got.taken k ++ exact.rest)
@@ -78,11 +82,11 @@ module _ (loads loads' : List Load) (a b : ℕ) (v : Visit) where
   }
 
   -- the own lane
-  lane-own : (from own new : Near) (h : LaneStands loads a b from own) → from ≡ own → OwnVisited v own new → load_on loads' a b ≡ Some (emptied v.takes (refilled v.owed h.load)) → LaneStands loads' a b new new
+  lane-own : (from own new : Near) (h : LaneStands loads a b from own) → from ≡ own → OwnVisited v own new → load_on loads' a b ≡ Some (emptied (given_alone v.takes) v.takes (refilled v.owed h.load)) → LaneStands loads' a b new new
   lane-own from own new h same visited loaded =
       let frames : own.sent.put ≡ h.load.frames = ap (λ (n : Near). n.sent.put) (sym same) ∙ h.frames ∙ ap (λ (fs : List (List ℕ)). fs ++ h.load.frames) visited.was.taken in
       record {
-        load = emptied v.takes (refilled v.owed h.load);
+        load = emptied (given_alone v.takes) v.takes (refilled v.owed h.load);
         loaded = loaded;
         frames =
             sym (taken-off v.takes (h.load.frames ++ v.owed) new.sent.put (ap (λ (fs : List (List ℕ)). fs ++ v.owed) (sym frames) ∙ visited.came))
@@ -113,7 +117,7 @@ module _ (n : ℕ) (own : ℕ → Near) (far : ℕ → ℕ → Near) (v : Visit)
   -- by whether each end is the domain, and whether it is the peer
   lane_by : (a b : ℕ) (a_own b_own a_peer b_peer : Bool) → (a == n) ≡ a_own → (b == n) ≡ b_own → (a == v.peer) ≡ a_peer → (b == v.peer) ≡ b_peer
       → (h : LaneStands loads a b (cond a_own (own b) (far a b)) (cond b_own (own a) (far b a)))
-      → load_on (loads_by n v loads) a b ≡ Some (cond (a_peer && b_own) (emptied v.takes (cond (a_own && b_peer) (refilled v.owed h.load) h.load)) (cond (a_own && b_peer) (refilled v.owed h.load) h.load))
+      → load_on (loads_by n v loads) a b ≡ Some (cond (a_peer && b_own) (emptied (given_alone v.takes) v.takes (cond (a_own && b_peer) (refilled v.owed h.load) h.load)) (cond (a_own && b_peer) (refilled v.owed h.load) h.load))
       → LaneStands (loads_by n v loads) a b (cond a_own (cond b_peer new (own b)) (far a b)) (cond b_own (cond a_peer new (own a)) (far b a))
   lane_by a b true true true true a_is b_is a_at b_at h loaded =
       lane-own loads (loads_by n v loads) a b v (own b) (own a) new h (ap own (eqb-true b v.peer b_at ∙ sym (eqb-true a v.peer a_at))) (visited_at a true a_at a_is) loaded

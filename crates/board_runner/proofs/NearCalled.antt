@@ -1,5 +1,5 @@
 -- One call at a domain's ends towards a peer: what the domain did there after it, by what it did before.
-use Rattle.std.proofs.Common.{◌≡◌, ℕ, ◌+◌, ◌≤◌, Bool, true, false, cond, List, [], ◌∷◌, ◌++◌, length, map, sum, count_by, filter, refl, sym, ap, ◌∙◌, subst, inl, inr, arith, append-nil, length-append, eqb-true, eq-eqb, ne_eqb, true≢false}
+use Rattle.std.proofs.Common.{◌≡◌, ℕ, ◌+◌, ◌≤◌, Bool, true, false, cond, List, [], ◌∷◌, ◌++◌, length, map, flat_map, sum, filter, refl, sym, ap, ◌∙◌, subst, inl, inr, arith, append-nil, length-append, eqb-true, eq-eqb, ne_eqb, true≢false}
 use Rattle.std.specs.Prelude.{◌==◌}
 use Rattle.std.proofs.lemmas.List.{length-map}
 use Rattle.mc_base.specs.declared.request.Slot.{Slot}
@@ -18,8 +18,7 @@ use Rattle.lane_end.specs.declared.any.AnyRecv.{AnyRecv}
 use Rattle.lane_end.specs.declared.any.AnySend.TheVariants as send
 use Rattle.lane_end.specs.declared.any.AnyRecv.TheVariants as recv
 use Rattle.lane_end.specs.Loop.{Loop}
-use Rattle.board_model.specs.State.{Item, is_from}
-use Rattle.board_model.proofs.ListsCounts.{one_if, count-cons}
+use Rattle.board_model.specs.State.{Item, is_from, frames_from}
 use Rattle.board_model.proofs.WholeCalls.{frames_for}
 use Rattle.domain_core.specs.declared.Ends.TheVariants.{Own, Linked}
 use Rattle.domain_core.specs.LaneMoves.{receiver, sends, receives}
@@ -176,18 +175,18 @@ frames_same q (p ∷ ps) = go (p.0 == q) (frames_same q ps)
     go false rest = rest
 
 -- what is given back, where the item that each buffer held came from its slot's peer
-module _ (item : Slot → Item) (same : (s : Slot) → (item s).peer ≡ s.peer) where
-  buffers_many : (q : ℕ) (slots : List Slot) → length (buffers_of q slots) ≡ count_by (is_from q) (map item slots)
+module _ (item : Slot → Item) (same : (s : Slot) → (item s).peer ≡ s.peer) (one : (s : Slot) → length (item s).frames ≡ 1) where
+  buffers_many : (q : ℕ) (slots : List Slot) → length (buffers_of q slots) ≡ length (frames_from q (map item slots))
   buffers_many q [] = refl
   buffers_many q (s ∷ ss) = go (s.peer == q) refl (buffers_many q ss)
     where
-      go : (x : Bool) → (s.peer == q) ≡ x → length (buffers_of q ss) ≡ count_by (is_from q) (map item ss)
-          → length (map (λ (y : Slot). y.buffer) (cond x (s ∷ filter (λ (y : Slot). y.peer == q) ss) (filter (λ (y : Slot). y.peer == q) ss))) ≡ count_by (is_from q) (map item (s ∷ ss))
-      go true is rest = omega (arith, rest, count-cons (is_from q) (item s) (map item ss), ap one_if (ap (λ (k : ℕ). k == q) (same s) ∙ is))
-      go false is rest = omega (arith, rest, count-cons (is_from q) (item s) (map item ss), ap one_if (ap (λ (k : ℕ). k == q) (same s) ∙ is))
+      go : (x : Bool) → (s.peer == q) ≡ x → length (buffers_of q ss) ≡ length (frames_from q (map item ss))
+          → length (map (λ (y : Slot). y.buffer) (cond x (s ∷ filter (λ (y : Slot). y.peer == q) ss) (filter (λ (y : Slot). y.peer == q) ss))) ≡ length (frames_from q (map item (s ∷ ss)))
+      go true is rest = omega (arith, rest, one s, length-append (item s).frames (frames_from q (map item ss)), ap (λ b. length (flat_map (λ (i : Item). i.frames) (cond b (item s ∷ filter (is_from q) (map item ss)) (filter (is_from q) (map item ss))))) (ap (λ (k : ℕ). k == q) (same s) ∙ is))
+      go false is rest = omega (arith, rest, ap (λ b. length (flat_map (λ (i : Item). i.frames) (cond b (item s ∷ filter (is_from q) (map item ss)) (filter (is_from q) (map item ss))))) (ap (λ (k : ℕ). k == q) (same s) ∙ is))
 
   pub peer-called : (n : ℕ) (puts : List (ℕ × List ℕ)) (slots : List Slot) (items : List Item) (ps : List ℕ) (es es' : List RunEnds) → EndsMatch n ps es → map item slots ≡ items → AllMoved Moved es (call_moves puts slots ps) es'
-      → (q : ℕ) → HasPeer ps q → NearCalled (q == n) (frames_for q puts) (count_by (is_from q) items) (near_among ps es q) (near_among ps es' q)
+      → (q : ℕ) → HasPeer ps q → NearCalled (q == n) (frames_for q puts) (length (frames_from q items)) (near_among ps es q) (near_among ps es' q)
   peer-called n puts slots items ps es es' matched returned moved q has =
-      subst (λ (fs : List (List ℕ)). NearCalled (q == n) fs (count_by (is_from q) items) (near_among ps es q) (near_among ps es' q)) (frames_same q puts)
-      (subst (λ (k : ℕ). NearCalled (q == n) (frames_to q puts) k (near_among ps es q) (near_among ps es' q)) (buffers_many q slots ∙ ap (count_by (is_from q)) returned) (among-called n puts slots ps es es' matched moved q has))
+      subst (λ (fs : List (List ℕ)). NearCalled (q == n) fs (length (frames_from q items)) (near_among ps es q) (near_among ps es' q)) (frames_same q puts)
+      (subst (λ (k : ℕ). NearCalled (q == n) (frames_to q puts) k (near_among ps es q) (near_among ps es' q)) (buffers_many q slots ∙ ap (λ (is : List Item). length (frames_from q is)) returned) (among-called n puts slots ps es es' matched moved q has))

@@ -22,7 +22,7 @@ use Rattle.shared_words.specs.Entry.{Entry}
 use Rattle.lane_end.specs.Loop.{Loop}
 use Rattle.board_model.specs.Journal.{Visit, Taken}
 use Rattle.board_model.specs.Dealing.{keeps_buffer}
-use Rattle.board_model.specs.Serial.{returned_at_once}
+use Rattle.board_model.proofs.ClosedStates.{given_alone}
 use Rattle.board_model.proofs.ListsCounts.{one_if, count-cons}
 use Rattle.board_model.proofs.WholeTakes.{frames_of}
 use Rattle.domain_core.specs.declared.Ends.TheVariants.{Own, Linked}
@@ -44,7 +44,7 @@ pub record SentVisited (back : ℕ) (owed : List (List ℕ)) (old new : SentNear
 
 pub record GotVisited (see : ℕ) (takes : List Taken) (old new : GotNear) : Type 0 where
   pub taken : new.taken ≡ old.taken ++ frames_of takes
-  pub given : new.given ≡ old.given + returned_at_once takes
+  pub given : new.given ≡ old.given + given_alone takes
   pub low : old.known ≤ length old.taken + see
   pub high : length old.taken + see ≤ new.known
   pub grows : old.known ≤ new.known
@@ -64,7 +64,7 @@ pub record OwnVisited (v : Visit) (old new : Near) : Type 0 where
   pub back : v.back ≡ old.got.given
   pub see : v.see ≡ length (old.sent.put ++ v.owed)
   pub came : old.sent.put ++ v.owed ≡ frames_of v.takes ++ new.sent.put
-  pub given : new.got.given ≡ returned_at_once v.takes
+  pub given : new.got.given ≡ given_alone v.takes
 
 abbrev pub NearVisited : Bool → Visit → Near → Near → Type 0
 NearVisited true v old new = OwnVisited v old new
@@ -79,8 +79,8 @@ first-came n frame [] e = cc
 first-came n frame (f ∷ came) e = let is : f ≡ (n, frame) = cc in ap (λ (g : ℕ × List ℕ). g.1 ∷ contents came) is
 
 -- what a taken frame adds to the buffers that are given back
-returned_one : (t : Taken) (ts : List Taken) (k : Bool) → keeps_buffer t.fate ≡ k → returned_at_once (t ∷ ts) ≡ one_if (not k) + returned_at_once ts
-returned_one t ts k e = count-cons (λ (x : Taken). not (keeps_buffer x.fate)) t ts ∙ ap (λ b. one_if (not b) + returned_at_once ts) e
+returned_one : (t : Taken) (ts : List Taken) (k : Bool) → keeps_buffer t.fate ≡ k → given_alone (t ∷ ts) ≡ one_if (not k) + given_alone ts
+returned_one t ts k e = count-cons (λ (x : Taken). not (keeps_buffer x.fate)) t ts ∙ ap (λ b. one_if (not b) + given_alone ts) e
 
 -- ---- the ends of a link
 
@@ -144,7 +144,7 @@ loads-frames (e ∷ es) = ap (λ (fs : List (List ℕ)). entry_frame e ∷ fs) (
 
 pub record TakesTell (ms : List ReceiveMove) (ts : List Taken) : Type 0 where
   pub frames : contents (frames_taken ms) ≡ frames_of ts
-  pub given : length (numbers_given ms) ≡ returned_at_once ts
+  pub given : length (numbers_given ms) ≡ given_alone ts
 
 pub takes-tell : (ns : List ℕ) (ts : List Taken) → length ns ≡ length ts → TakesTell (receives (taking ns ts)) ts
 takes-tell [] [] each = record { frames = refl; given = refl }
@@ -180,7 +180,7 @@ any-got see ns ts r r' ring each moved = go r r' ring moved
         let same : length (got_by r).taken ≡ length r.half.taken = length-map r.half.taken entry_frame in
         record {
           taken = ring-taken see (receives (taking ns ts)) r r' moved (frames_of ts) tell.frames;
-          given = ring-given see (receives (taking ns ts)) r r' moved (returned_at_once ts) tell.given;
+          given = ring-given see (receives (taking ns ts)) r r' moved (given_alone ts) tell.given;
           low = let l = moved.seen.0 in omega (arith, l, same);
           high = let h = moved.seen.1 in omega (arith, h, same);
           grows = moved.known;
@@ -206,7 +206,7 @@ link-visited v ns p a b rings each moved =
 -- frames leave those that came, and some of their buffers are given back
 record Taking (ts : List Taken) (old new : List (ℕ × List ℕ)) (back back' : List ℕ) : Type 0 where
   came : contents old ≡ frames_of ts ++ contents new
-  given : length back' ≡ length back + returned_at_once ts
+  given : length back' ≡ length back + given_alone ts
 
 -- one frame more, whose buffer was given back or not
 taking_more : (n : ℕ) (t : Taken) (ts : List Taken) (came came' : List (ℕ × List ℕ)) (given given1 given' : List ℕ) (k : Bool) → keeps_buffer t.fate ≡ k → slice_get came 0 ≡ Some (n, t.frame) → length given1 ≡ length given + one_if (not k) → Taking ts (drop 1 came) came' given1 given' → Taking (t ∷ ts) came came' given given'

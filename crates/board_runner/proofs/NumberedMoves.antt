@@ -7,16 +7,19 @@ use Rattle.mc_base.specs.declared.request.Slot.{Slot}
 use Rattle.lane_end.specs.ReceiveMoves as receiving
 use Rattle.lane_end.specs.ReceiveMoves.{ReceiveMove, Took, Gave}
 use Rattle.board_model.specs.declared.scenario.CallLine.{CallLine}
+use Rattle.board_model.specs.ClosedStates.{IsClosed}
 use Rattle.board_model.specs.Dealing.{keeps_buffer}
 use Rattle.board_model.specs.Deeds.{Deed, looks_back, puts_owed, looks_ahead, takes, after_deed, after_deeds, along}
 use Rattle.board_model.specs.Journal.{PlainEntry, PlainAnswer, Visit, Taken}
 use Rattle.board_model.specs.JournalDeeds.{named_deeds, names_from, call_deeds}
+use Rattle.board_model.specs.Returns.{given_at_once, given_by_frame}
 use Rattle.board_model.specs.Serial.{put_entry}
 use Rattle.board_model.specs.State.{DomainState}
 use Rattle.board_model.specs.Step.{RunState, next_line, after}
 use Rattle.board_model.specs.Traffic.{taken_from}
 use Rattle.board_model.specs.Turn.{takes_named, visit_deeds}
-use Rattle.board_model.specs.Unnamed.{unnamed, unnamed_end, unnamed_packet, unnamed_request}
+use Rattle.board_model.specs.Unnamed.{unnamed, unnamed_end, unnamed_held, unnamed_packet, unnamed_request}
+use Rattle.board_model.proofs.ClosedStates.{closed-deed, closed-deeds, given-alone}
 use Rattle.board_model.proofs.DeedJoins.{along-join}
 use Rattle.board_model.proofs.MessageAlls.{all-append}
 use Rattle.board_model.proofs.WholeJournals.{call_entries}
@@ -89,34 +92,36 @@ module _ (p : ℕ) where
   owed-dealt peer [] s = refl
   owed-dealt peer (f ∷ fs) s = owed-dealt peer fs (after_deed s (puts_owed peer f))
 
-  takes-dealt : (peer : ℕ) (ns : List ℕ) (ts : List Taken) (s : DomainState) → length ns ≡ length ts → along (deed_moves p) s (takes_named (λ k. slice_get ns k) peer ts) ≡ cond (peer == p) (unlooked (receives (taking ns ts))) []
-  takes-dealt peer [] [] s e = nothing (peer == p)
+  takes-dealt : (peer : ℕ) (ns : List ℕ) (ts : List Taken) (s : DomainState) → IsClosed s → length ns ≡ length ts → along (deed_moves p) s (takes_named (λ k. slice_get ns k) peer ts) ≡ cond (peer == p) (unlooked (receives (taking ns ts))) []
+  takes-dealt peer [] [] s closed e = nothing (peer == p)
     where
       nothing : (b : Bool) → [] ≡ cond {A = List ReceiveMove} b [] []
       nothing true = refl
       nothing false = refl
-  takes-dealt peer [] (t ∷ ts) s e = absurd (omega (arith, e))
-  takes-dealt peer (n ∷ ns) [] s e = absurd (omega (arith, e))
-  takes-dealt peer (n ∷ ns) (t ∷ ts) s e =
-      ap (λ (f : ℕ → Option ℕ). cond (peer == p) (deals.taking (Some n) t.frame t.fate) [] ++ along (deed_moves p) (after_deed s (takes peer (Some n) t.frame t.fate)) (takes_named f peer ts)) (next-number n ns)
-      ∙ (ap (λ (ms : List ReceiveMove). cond (peer == p) (deals.taking (Some n) t.frame t.fate) [] ++ ms) (takes-dealt peer ns ts (after_deed s (takes peer (Some n) t.frame t.fate)) (omega (arith, e)))
-      ∙ go (peer == p))
+  takes-dealt peer [] (t ∷ ts) s closed e = absurd (omega (arith, e))
+  takes-dealt peer (n ∷ ns) [] s closed e = absurd (omega (arith, e))
+  takes-dealt peer (n ∷ ns) (t ∷ ts) s closed e =
+      let d : Deed = takes peer (Some n) t.frame t.fate in
+      ap (λ (f : ℕ → Option ℕ). cond (peer == p) (deals.taking (Some n) t.frame (given_by_frame s peer (Some n) t.frame t.fate)) [] ++ along (deed_moves p) (after_deed s d) (takes_named f peer ts)) (next-number n ns)
+      ∙ (ap (λ (gs : List ℕ). cond (peer == p) (deals.taking (Some n) t.frame gs) [] ++ along (deed_moves p) (after_deed s d) (takes_named (λ k. slice_get ns k) peer ts)) (given-alone s peer (Some n) t.frame t.fate closed)
+      ∙ (ap (λ (ms : List ReceiveMove). cond (peer == p) (deals.taking (Some n) t.frame (given_at_once t.fate (n ∷ []))) [] ++ ms) (takes-dealt peer ns ts (after_deed s d) (closed-deed s d closed) (omega (arith, e)))
+      ∙ go (peer == p)))
     where
       back : (k : Bool) → (deals.giving (cond k [] (n ∷ [])) ++ unlooked (receives (taking ns ts))) ≡ unlooked (receives (cond k [] (receiver (Gave n) ∷ []) ++ taking ns ts))
       back true = refl
       back false = refl
 
-      go : (b : Bool) → cond b (deals.taking (Some n) t.frame t.fate) [] ++ cond b (unlooked (receives (taking ns ts))) [] ≡ cond b (unlooked (receives (taking (n ∷ ns) (t ∷ ts)))) []
+      go : (b : Bool) → cond b (deals.taking (Some n) t.frame (given_at_once t.fate (n ∷ []))) [] ++ cond b (unlooked (receives (taking ns ts))) [] ≡ cond b (unlooked (receives (taking (n ∷ ns) (t ∷ ts)))) []
       go true = ap (λ (ms : List ReceiveMove). Took n t.frame ∷ ms) (back (keeps_buffer t.fate))
       go false = refl
 
-  visit-dealt : (v : Visit) (ns : List ℕ) (s : DomainState) → length ns ≡ length v.takes → along (deed_moves p) s (numbered_deeds v ns) ≡ cond (v.peer == p) (unlooked (receives (visit_moves v ns))) []
-  visit-dealt v ns s e =
+  visit-dealt : (v : Visit) (ns : List ℕ) (s : DomainState) → IsClosed s → length ns ≡ length v.takes → along (deed_moves p) s (numbered_deeds v ns) ≡ cond (v.peer == p) (unlooked (receives (visit_moves v ns))) []
+  visit-dealt v ns s closed e =
       let t = after_deed s (looks_back v.peer v.back) in
       let u = after_deeds t (map (puts_owed v.peer) v.owed) in
       along-join (deed_moves p) t (map (puts_owed v.peer) v.owed) (looks_ahead v.peer v.see ∷ takes_named (number_in ns) v.peer v.takes)
       ∙ (ap (λ (ms : List ReceiveMove). ms ++ along (deed_moves p) (after_deeds t (map (puts_owed v.peer) v.owed)) (looks_ahead v.peer v.see ∷ takes_named (number_in ns) v.peer v.takes)) (owed-dealt v.peer v.owed t)
-      ∙ (takes-dealt v.peer ns v.takes (after_deed u (looks_ahead v.peer v.see)) e
+      ∙ (takes-dealt v.peer ns v.takes (after_deed u (looks_ahead v.peer v.see)) (closed-deed u (looks_ahead v.peer v.see) (closed-deeds t (map (puts_owed v.peer) v.owed) (closed-deed s (looks_back v.peer v.back) closed))) e
       ∙ ap (λ (ms : List ReceiveMove). cond (v.peer == p) (unlooked ms) []) (sym (receives-putting v.owed (receiver (receiving.Looked v.see) ∷ taking ns v.takes)))))
 
 -- ---- a turn
@@ -142,13 +147,13 @@ turn_at [] nss p = []
 turn_at (v ∷ vs) [] p = []
 turn_at (v ∷ vs) (ns ∷ nss) p = cond (v.peer == p) (visit_moves v ns ++ turn_at vs nss p) (turn_at vs nss p)
 
-pub turn-dealt : (p : ℕ) (vs : List Visit) (nss : List (List ℕ)) (s : DomainState) → HaveNumbers vs nss → unlooked (receives (turn_at vs nss p)) ≡ along (deed_moves p) s (turn_deeds vs nss)
-turn-dealt p [] [] s have = refl
-turn-dealt p [] (ns ∷ nss) s have = absurd have
-turn-dealt p (v ∷ vs) [] s have = absurd have
-turn-dealt p (v ∷ vs) (ns ∷ nss) s have =
-    go (v.peer == p) (turn-dealt p vs nss (after_deeds s (numbered_deeds v ns)) have.1)
-    ∙ sym (along-join (deed_moves p) s (numbered_deeds v ns) (turn_deeds vs nss) ∙ ap (λ (ms : List ReceiveMove). ms ++ along (deed_moves p) (after_deeds s (numbered_deeds v ns)) (turn_deeds vs nss)) (visit-dealt p v ns s have.0))
+pub turn-dealt : (p : ℕ) (vs : List Visit) (nss : List (List ℕ)) (s : DomainState) → IsClosed s → HaveNumbers vs nss → unlooked (receives (turn_at vs nss p)) ≡ along (deed_moves p) s (turn_deeds vs nss)
+turn-dealt p [] [] s closed have = refl
+turn-dealt p [] (ns ∷ nss) s closed have = absurd have
+turn-dealt p (v ∷ vs) [] s closed have = absurd have
+turn-dealt p (v ∷ vs) (ns ∷ nss) s closed have =
+    go (v.peer == p) (turn-dealt p vs nss (after_deeds s (numbered_deeds v ns)) (closed-deeds s (numbered_deeds v ns) closed) have.1)
+    ∙ sym (along-join (deed_moves p) s (numbered_deeds v ns) (turn_deeds vs nss) ∙ ap (λ (ms : List ReceiveMove). ms ++ along (deed_moves p) (after_deeds s (numbered_deeds v ns)) (turn_deeds vs nss)) (visit-dealt p v ns s closed have.0))
   where
     go : (b : Bool) → unlooked (receives (turn_at vs nss p)) ≡ along (deed_moves p) (after_deeds s (numbered_deeds v ns)) (turn_deeds vs nss)
         → unlooked (receives (cond b (visit_moves v ns ++ turn_at vs nss p) (turn_at vs nss p))) ≡ cond b (unlooked (receives (visit_moves v ns))) [] ++ along (deed_moves p) (after_deeds s (numbered_deeds v ns)) (turn_deeds vs nss)
@@ -179,12 +184,14 @@ none-mapped : {A B : Type 0} (f : A → B) (xs : List A) → map f xs ≡ [] →
 none-mapped {A} {B} f [] e = refl
 none-mapped {A} {B} f (x ∷ xs) e = absurd cc
 
-pub numbered-opened : (u t : DomainState) → t.endpoints ≡ [] → t.requests ≡ [] → t.lent ≡ [] → t ≡ unnamed u → u ≡ t
-numbered-opened u t no_ends no_requests no_packets same =
+pub numbered-opened : (u t : DomainState) → t.endpoints ≡ [] → t.requests ≡ [] → t.lent ≡ [] → t.held ≡ [] → t ≡ unnamed u → u ≡ t
+numbered-opened u t no_ends no_requests no_packets none_held same =
     let ends : map unnamed_end u.endpoints ≡ [] = sym (ap (λ (s : DomainState). s.endpoints) same) ∙ no_ends in
     let requests : map unnamed_request u.requests ≡ [] = sym (ap (λ (s : DomainState). s.requests) same) ∙ no_requests in
     let packets : map unnamed_packet u.lent ≡ [] = sym (ap (λ (s : DomainState). s.lent) same) ∙ no_packets in
     let one = none-mapped unnamed_end u.endpoints ends ∙ sym ends in
     let two = none-mapped unnamed_request u.requests requests ∙ sym requests in
+    let held : map unnamed_held u.held ≡ [] = sym (ap (λ (s : DomainState). s.held) same) ∙ none_held in
     let three = none-mapped unnamed_packet u.lent packets ∙ sym packets in
-    (λ i. record u { endpoints = one i; requests = two i; lent = three i }) ∙ sym same
+    let four = none-mapped unnamed_held u.held held ∙ sym held in
+    (λ i. record u { endpoints = one i; requests = two i; lent = three i; held = four i }) ∙ sym same

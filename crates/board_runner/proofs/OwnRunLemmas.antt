@@ -7,6 +7,7 @@ use Rattle.lane_end.specs.AnyReceiver.{AnyReceives}
 use Rattle.mc_base.specs.declared.refusal.Refusal.{Refusal}
 use Rattle.mc_base.specs.declared.request.PacketId.{PacketId}
 use Rattle.mc_base.specs.declared.request.RequestId.{RequestId}
+use Rattle.board_model.specs.ClosedStates.{IsClosed}
 use Rattle.board_model.specs.declared.scenario.CallLine.{CallLine}
 use Rattle.board_model.specs.declared.scenario.DomainLine.{DomainLine}
 use Rattle.board_model.specs.declared.scenario.Scenario.{Scenario}
@@ -133,7 +134,7 @@ module _ (s : Scenario) (board : IsLinkedBoard s) (d : DomainLine) (ends : List 
   turned_moves : MovedAsTold lines begun (peers_of old.domain) t.entries ends mid.ends begun.state mid.numbered
   turned_moves =
       moved_then lines begun (peers_of old.domain) h.entries (turned calls.visits ∷ []) ends old.domain.ends mid.ends begun.state old.domain.numbered mid.numbered h.moves
-      (turn_moved lines (after_all lines begun h.entries) old.domain mid calls.visits calls.numbers calls.turns differ)
+      (turn_moved lines (after_all lines begun h.entries) old.domain mid calls.visits calls.numbers calls.turns differ (subst IsClosed (sym h.stands.state) h.stands.closed))
 
   -- the call
 
@@ -359,7 +360,7 @@ ran_none s st h = record {
     rests = refl;
     moves =
         none_moved (script s d.domain) (start s d) d.domain (peers_of st.domain) st.domain.ends opened.matched (start s d).state st.domain.numbered
-        (numbered-opened st.domain.numbered (start s d).state refl refl refl (sym opened.state ∙ st.domain.nameless));
+        (numbered-opened st.domain.numbered (start s d).state refl refl refl refl (sym opened.state ∙ st.domain.nameless));
   };
   number = h.number ∙ none s.calls;
   drops = omega (arith, h.dropped);

@@ -2,6 +2,7 @@
 use Rattle.std.proofs.Common.{◌≡◌, ℕ, ◌+◌, ◌*◌, ◌≤◌, ◌<◌, ◌^◌, Bool, true, false, ◌&&◌, List, [], ◌∷◌, ◌++◌, length, map, Some, Option, refl, sym, ap, ap₂, ◌∙◌, subst, inl, inr, arith, true≢false}
 use Rattle.std.specs.Prelude.{IsSome, slice_get}
 use Rattle.mc_base.specs.declared.request.RequestId.{RequestId}
+use Rattle.board_model.specs.ClosedStates.{IsClosed}
 use Rattle.board_model.specs.declared.scenario.CallLine.{CallLine}
 use Rattle.board_model.specs.declared.scenario.DomainLine.{DomainLine}
 use Rattle.board_model.specs.declared.scenario.Scenario.{Scenario}
@@ -203,7 +204,7 @@ module _ (s : Scenario) (board : IsLinkedBoard s) (d : DomainLine) (ends : List 
           moves =
               subst (λ (ps : List ℕ). MovedAsTold lines opened ps (h.entries ++ e ∷ []) ends next.ends opened.state next.numbered) (sym peers)
               (moved_then lines opened (peers_of st.domain) h.entries (e ∷ []) ends st.domain.ends next.ends opened.state st.domain.numbered next.numbered at.moves
-              (turn_moved lines (after_all lines opened h.entries) st.domain next visits numbers turn differ));
+              (turn_moved lines (after_all lines opened h.entries) st.domain next visits numbers turn differ (subst IsClosed (sym at.stands.state) at.stands.closed)));
           comes = at.comes;
         };
         waited = one_more_turn s line turns t visits at.comes (record { begun = h.waited; pends = pends });

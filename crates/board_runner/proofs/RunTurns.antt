@@ -2,6 +2,7 @@
 use Rattle.std.proofs.Common.{◌≡◌, ◌≢◌, ℕ, Bool, true, false, cond, List, map, Option, Some, slice_get, slice_set, refl, sym, ap, ◌∙◌, subst, eqb-true}
 use Rattle.std.specs.Prelude.{◌==◌}
 use Rattle.std.specs.List.{AllByRecursion}
+use Rattle.board_model.specs.ClosedStates.{IsClosed}
 use Rattle.board_model.specs.declared.scenario.DomainLine.{DomainLine}
 use Rattle.board_model.specs.declared.scenario.Scenario.{Scenario}
 use Rattle.board_model.specs.Scenario.{Lane, lanes, rising}
@@ -102,7 +103,7 @@ module _ (s : Scenario) (board : IsLinkedBoard s) (r : Running) (sts : List Stat
       turned-lanes st.domain d' visits numbers turns
       (subst (λ (n : ℕ). EndsMatch n (peers_of st.domain) st.domain.ends) (sym number-is) place.is.matched)
       (subst Differ (sym place.is.peers) (neighbours_differ s board place.station.line))
-      (near (domains_in sts)) (lanes s) r.loads exact
+      (near (domains_in sts)) (lanes s) r.loads (subst IsClosed (sym place.is.state) place.is.closed) exact
       (subst (λ (n : ℕ). AllByRecursion (HasBoth (lanes s) n) (peers_of st.domain)) (sym number-is) (subst (AllByRecursion (HasBoth (lanes s) place.station.line.domain)) (sym place.is.peers) (has-both s board place.station.line i line-at)))
       (all-weaken (LaneHolds (domains_in sts) r.loads) (Stands (number_in st) (near_of st.domain) (near (domains_in sts)) r.loads)
       (holds-stands (domains_in sts) (number_in st) (near_of st.domain) (near (domains_in sts)) r.loads (near-was sts i st (number_in st) (numbers-differ s board r sts h) at refl)) (lanes s) h.holds)

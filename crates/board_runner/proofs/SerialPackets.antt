@@ -12,7 +12,9 @@ use Rattle.board_model.specs.DomainCall.{DomainCall, create_at, delete_at, looku
 use Rattle.board_model.specs.Lists.{without}
 use Rattle.board_model.specs.Journal.{Visit}
 use Rattle.board_model.specs.State.{DomainState, ChannelEnd, Endpoint, Item, Asked, Request, LentPacket, Outcome, channel_of, message_at, packet_at, has_item, is_lent_as, is_at, queue_in, queue_at, live_at, request_at_place, place_of_packet}
-use Rattle.board_model.specs.Change.{Change, endpoint_gone, best_gone, oldest_gone, channel_set, waiting_ended, request_added, request_gone, end_announced, buffer_used, packet_lent, packet_gone, channel_given, changed, changed_all}
+use Rattle.mc_base.specs.Letter.{packet}
+use Rattle.mc_base.specs.Pieces.{frames_needed}
+use Rattle.board_model.specs.Change.{Change, endpoint_gone, best_gone, oldest_gone, channel_set, waiting_ended, request_added, request_gone, end_announced, buffers_used, packet_lent, packet_gone, channel_given, changed, changed_all}
 use Rattle.board_model.specs.ChannelEnds.{opened_end}
 use Rattle.board_model.specs.CallChanges.{at_live, at_end, new_sender, closing, best_item, lending, lent_by, lent_by_test, success_changes, effect}
 use Rattle.board_model.specs.Choice.{oldest}
@@ -102,15 +104,15 @@ success_packets s node (send_from port to priority bytes) none = sym (append-nil
 success_packets s node (receive_at port max) none = live_same packets s (live_at s (local node port)) (λ e. best_gone e.address ∷ []) (λ e. refl) ∙ sym (append-nil (packets s))
 success_packets s node (request_at port max) none = live_same packets s (live_at s (local node port)) (λ e. best_gone e.address ∷ request_added (message_at e.local max) (option_map has_item (best_item e)) ∷ []) (λ e. refl) ∙ sym (append-nil (packets s))
 success_packets s node (available_at port) none = sym (append-nil (packets s))
-success_packets s node (connect_from port to kind) none = live_same packets s (live_at s (local node port)) (λ e. buffer_used to.domain ∷ channel_set e.address (Some (new_sender s to kind)) ∷ request_added (channel_of (s.channels_given + 1)) None ∷ channel_given ∷ []) (λ e. refl) ∙ sym (append-nil (packets s))
-success_packets s node (open_at port side kind) none = end_same packets s (live_at s (local node port)) (λ e c. buffer_used c.peer ∷ channel_set e.address (Some (opened_end c)) ∷ []) (λ e c. refl) ∙ sym (append-nil (packets s))
-success_packets s node (packet_from port bytes) none = end_same packets s (live_at s (local node port)) (λ e c. buffer_used c.peer ∷ []) (λ e c. refl) ∙ sym (append-nil (packets s))
+success_packets s node (connect_from port to kind) none = live_same packets s (live_at s (local node port)) (λ e. buffers_used to.domain 1 ∷ channel_set e.address (Some (new_sender s to kind)) ∷ request_added (channel_of (s.channels_given + 1)) None ∷ channel_given ∷ []) (λ e. refl) ∙ sym (append-nil (packets s))
+success_packets s node (open_at port side kind) none = end_same packets s (live_at s (local node port)) (λ e c. buffers_used c.peer 1 ∷ channel_set e.address (Some (opened_end c)) ∷ []) (λ e c. refl) ∙ sym (append-nil (packets s))
+success_packets s node (packet_from port bytes) none = end_same packets s (live_at s (local node port)) (λ e c. buffers_used c.peer (frames_needed (packet c.number bytes)) ∷ []) (λ e c. refl) ∙ sym (append-nil (packets s))
 success_packets s node (lend_at port) none =
     let there = lends_at s node port none in
     ap (λ o. packets (changed_all s (at_live o (lends s node port)))) there.2 ∙ (ap (λ o. packets (changed_all (changed s (oldest_gone there.0.address)) (lending o))) there.3 ∙ map-append (λ p. p.serial) s.lent _)
 success_packets s node (packet_request_at port) none = live_same packets s (live_at s (local node port)) (λ e. oldest_gone e.address ∷ request_added (packet_at e.local) (option_map has_item (oldest e.queue)) ∷ []) (λ e. refl) ∙ sym (append-nil (packets s))
 success_packets s node (release_of place) none = map-without (λ p. p.serial) place s.lent ∙ sym (append-nil (without place (packets s)))
-success_packets s node (scalar_from port bits value) none = end_same packets s (live_at s (local node port)) (λ e c. buffer_used c.peer ∷ []) (λ e c. refl) ∙ sym (append-nil (packets s))
+success_packets s node (scalar_from port bits value) none = end_same packets s (live_at s (local node port)) (λ e c. buffers_used c.peer 1 ∷ []) (λ e c. refl) ∙ sym (append-nil (packets s))
 success_packets s node (scalar_at port bits) none = live_same packets s (live_at s (local node port)) (λ e. oldest_gone e.address ∷ []) (λ e. refl) ∙ sym (append-nil (packets s))
 success_packets s node (close_at port side) none = closing_keeps packets closing_packets s side (live_at s (local node port)) ∙ sym (append-nil (packets s))
 success_packets s node (test_of p) none =
@@ -140,15 +142,15 @@ success_lends s node (send_from port to priority bytes) none small = omega arith
 success_lends s node (receive_at port max) none small = omega (arith, live_same (λ t. t.packets_lent) s (live_at s (local node port)) (λ e. best_gone e.address ∷ []) (λ e. refl))
 success_lends s node (request_at port max) none small = omega (arith, live_same (λ t. t.packets_lent) s (live_at s (local node port)) (λ e. best_gone e.address ∷ request_added (message_at e.local max) (option_map has_item (best_item e)) ∷ []) (λ e. refl))
 success_lends s node (available_at port) none small = omega arith
-success_lends s node (connect_from port to kind) none small = omega (arith, live_same (λ t. t.packets_lent) s (live_at s (local node port)) (λ e. buffer_used to.domain ∷ channel_set e.address (Some (new_sender s to kind)) ∷ request_added (channel_of (s.channels_given + 1)) None ∷ channel_given ∷ []) (λ e. refl))
-success_lends s node (open_at port side kind) none small = omega (arith, end_same (λ t. t.packets_lent) s (live_at s (local node port)) (λ e c. buffer_used c.peer ∷ channel_set e.address (Some (opened_end c)) ∷ []) (λ e c. refl))
-success_lends s node (packet_from port bytes) none small = omega (arith, end_same (λ t. t.packets_lent) s (live_at s (local node port)) (λ e c. buffer_used c.peer ∷ []) (λ e c. refl))
+success_lends s node (connect_from port to kind) none small = omega (arith, live_same (λ t. t.packets_lent) s (live_at s (local node port)) (λ e. buffers_used to.domain 1 ∷ channel_set e.address (Some (new_sender s to kind)) ∷ request_added (channel_of (s.channels_given + 1)) None ∷ channel_given ∷ []) (λ e. refl))
+success_lends s node (open_at port side kind) none small = omega (arith, end_same (λ t. t.packets_lent) s (live_at s (local node port)) (λ e c. buffers_used c.peer 1 ∷ channel_set e.address (Some (opened_end c)) ∷ []) (λ e c. refl))
+success_lends s node (packet_from port bytes) none small = omega (arith, end_same (λ t. t.packets_lent) s (live_at s (local node port)) (λ e c. buffers_used c.peer (frames_needed (packet c.number bytes)) ∷ []) (λ e c. refl))
 success_lends s node (lend_at port) none small =
     let there = lends_at s node port none in
     ap (λ o. (changed_all s (at_live o (lends s node port))).packets_lent) there.2 ∙ (ap (λ o. (changed_all (changed s (oldest_gone there.0.address)) (lending o)).packets_lent) there.3 ∙ mod-eq_of_lt small)
 success_lends s node (packet_request_at port) none small = omega (arith, live_same (λ t. t.packets_lent) s (live_at s (local node port)) (λ e. oldest_gone e.address ∷ request_added (packet_at e.local) (option_map has_item (oldest e.queue)) ∷ []) (λ e. refl))
 success_lends s node (release_of place) none small = omega arith
-success_lends s node (scalar_from port bits value) none small = omega (arith, end_same (λ t. t.packets_lent) s (live_at s (local node port)) (λ e c. buffer_used c.peer ∷ []) (λ e c. refl))
+success_lends s node (scalar_from port bits value) none small = omega (arith, end_same (λ t. t.packets_lent) s (live_at s (local node port)) (λ e c. buffers_used c.peer 1 ∷ []) (λ e c. refl))
 success_lends s node (scalar_at port bits) none small = omega (arith, live_same (λ t. t.packets_lent) s (live_at s (local node port)) (λ e. oldest_gone e.address ∷ []) (λ e. refl))
 success_lends s node (close_at port side) none small = omega (arith, closing_keeps (λ t. t.packets_lent) closing_lends s side (live_at s (local node port)))
 success_lends s node (test_of p) none small =

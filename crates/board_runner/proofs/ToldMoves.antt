@@ -15,17 +15,19 @@ use Rattle.board_model.specs.declared.scenario.CallLine.{CallLine}
 use Rattle.board_model.specs.Answer.{puts}
 use Rattle.board_model.specs.CallChanges.{returned}
 use Rattle.board_model.specs.Dealing.{keeps_buffer}
+use Rattle.board_model.specs.ClosedStates.{IsClosed}
 use Rattle.board_model.specs.Deeds.{Deed, calls, after_deeds, along}
-use Rattle.board_model.specs.Given.{frames_from}
 use Rattle.board_model.specs.JournalDeeds.{named_deeds, call_deeds, entry_deeds}
 use Rattle.board_model.specs.DomainCall.{DomainCall}
 use Rattle.board_model.specs.Journal.{PlainEntry, turned, PlainAnswer, Visit, Taken}
 use Rattle.board_model.specs.LinkedBoard.{Differ}
 use Rattle.board_model.specs.Serial.{put_entry}
-use Rattle.board_model.specs.State.{DomainState, Item, is_from}
+use Rattle.board_model.specs.State.{DomainState, Item, is_from, frames_from}
 use Rattle.board_model.specs.Step.{RunState, next_line, after}
 use Rattle.board_model.specs.Run.{after_all}
 use Rattle.board_model.specs.Traffic.{visits_to, returned_by}
+use Rattle.board_model.specs.Unnamed.{no_names}
+use Rattle.board_model.proofs.ClosedStates.{renamed-closed}
 use Rattle.board_model.proofs.DeedJoins.{after-join, along-join}
 use Rattle.board_model.proofs.MessageAlls.{all-append}
 use Rattle.board_model.proofs.WholeJournals.{call_entries}
@@ -108,8 +110,8 @@ each_once (v ∷ vs) (ns ∷ nss) have differ =
     ap₂ (λ (x : List LaneMove) (xs : List (List LaneMove)). x ∷ xs) here
     (past_one v ns vs nss (map (λ (u : Visit). u.peer) vs) differ.0 ∙ each_once vs nss have.1 differ.1)
 
-pub turn_moved : (lines : List CallLine) (r : RunState) (d d' : RunDomain) (visits : List Visit) (numbers : List (List ℕ)) → Turns Moved visits numbers d d' → Differ (peers_of d) → MovedAsTold lines r (peers_of d) (turned visits ∷ []) d.ends d'.ends d.numbered d'.numbered
-turn_moved lines r d d' visits numbers turns differ =
+pub turn_moved : (lines : List CallLine) (r : RunState) (d d' : RunDomain) (visits : List Visit) (numbers : List (List ℕ)) → Turns Moved visits numbers d d' → Differ (peers_of d) → IsClosed d.state → MovedAsTold lines r (peers_of d) (turned visits ∷ []) d.ends d'.ends d.numbered d'.numbered
+turn_moved lines r d d' visits numbers turns differ closed =
     let peers = turns.allowed.each_peer in
     record {
       moves = turn_at visits numbers;
@@ -121,7 +123,7 @@ turn_moved lines r d d' visits numbers turns differ =
       numbered = turn-numbered visits numbers turns.each;
       noted = turn-nameless [] visits numbers turns.each ∙ sym (append-nil (map nameless_deed (flat_map (named_deeds []) visits)));
       led = turns.numbered;
-      dealt = λ p. turn-dealt p visits numbers d.numbered turns.each;
+      dealt = λ p. turn-dealt p visits numbers d.numbered (renamed-closed no_names d.numbered (subst IsClosed d.nameless closed)) turns.each;
     }
 
 -- ---- a call
@@ -132,7 +134,7 @@ given_once (n ∷ ns) = ap (λ (ms : List LaneMove). receiver (Gave 0) ∷ ms) (
 
 -- buffers that go back to a peer, by the items that they held
 abbrev going_back : ℕ → List Item → List LaneMove
-going_back p items = map (λ i. receiver (Gave 0)) (filter (is_from p) items)
+going_back p items = map (λ name. receiver (Gave 0)) (frames_from p items)
 
 items_back : (book : Book) (p : ℕ) (slots : List Slot) → map (λ (n : ℕ). receiver (Gave 0)) (buffers_of p slots) ≡ going_back p (map (item_at book) slots)
 items_back book p [] = refl
@@ -140,7 +142,7 @@ items_back book p (s ∷ ss) = go (s.peer == p) (items_back book p ss)
   where
     go : (b : Bool) → map (λ (n : ℕ). receiver (Gave 0)) (buffers_of p ss) ≡ going_back p (map (item_at book) ss)
         → map (λ (n : ℕ). receiver (Gave 0)) (map (λ (y : Slot). y.buffer) (cond b (s ∷ filter (λ (y : Slot). y.peer == p) ss) (filter (λ (y : Slot). y.peer == p) ss)))
-        ≡ map (λ (i : Item). receiver (Gave 0)) (cond b (item_at book s ∷ filter (is_from p) (map (item_at book) ss)) (filter (is_from p) (map (item_at book) ss)))
+        ≡ map (λ (name : ℕ). receiver (Gave 0)) (flat_map (λ (i : Item). i.frames) (cond b (item_at book s ∷ filter (is_from p) (map (item_at book) ss)) (filter (is_from p) (map (item_at book) ss))))
     go true rest = ap (λ (ms : List LaneMove). receiver (Gave 0) ∷ ms) rest
     go false rest = rest
 

@@ -20,7 +20,7 @@ use Rattle.board_model.specs.Run.{start, IsDomainRun}
 use Rattle.board_model.specs.Scenario.{script}
 use Rattle.board_model.specs.SerialRun as run
 use Rattle.board_model.specs.SerialRun.{journal_left}
-use Rattle.board_model.specs.State.{Item, is_from}
+use Rattle.board_model.specs.State.{frames_from}
 use Rattle.board_model.specs.Step.{RunState, next_line, after}
 use Rattle.board_model.specs.Traffic.{visits_to, returned_by, taken_from}
 use Rattle.board_model.proofs.MessageAlls.{all-append, all-weaken}
@@ -72,9 +72,9 @@ visits-dealings : (vs : List Visit) → dealings (flat_map visit_told vs) ≡ fl
 visits-dealings [] = refl
 visits-dealings (v ∷ vs) = dealings-append (visit_told v) (flat_map visit_told vs) ∙ ap₂ (λ (xs ys : List Sending). xs ++ ys) (visit-dealings v) (visits-dealings vs)
 
-back-dealings : (items : List Item) → dealings (map goes_back items) ≡ []
+back-dealings : (names : List ℕ) → dealings (map goes_back names) ≡ []
 back-dealings [] = refl
-back-dealings (i ∷ items) = back-dealings items
+back-dealings (n ∷ names) = back-dealings names
 
 entry-dealings : (lines : List CallLine) (r : RunState) (p : ℕ) (e : PlainEntry) → dealings (entry_told lines r p e) ≡ sent_by p e
 entry-dealings lines r p (turned vs) = visits-dealings (visits_to p vs)
@@ -85,7 +85,7 @@ entry-dealings lines r p (put to frame) = go (to == p)
     go false = refl
 entry-dealings lines r p (again word) = refl
 entry-dealings lines r p (waits k) = refl
-entry-dealings lines r p (called k a) = back-dealings (filter (is_from p) (returned_by (next_line lines r) r))
+entry-dealings lines r p (called k a) = back-dealings (frames_from p (returned_by (next_line lines r) r))
 
 run-dealings : (lines : List CallLine) (r : RunState) (p : ℕ) (es : List PlainEntry) → dealings (moves_told lines r p es) ≡ sent_to p es
 run-dealings lines r p [] = refl

@@ -1,5 +1,5 @@
 -- What the moves at the ends towards a peer are in all, where they are those that a journal tells: the journal's traffic with the peer.
-use Rattle.std.proofs.Common.{◌≡◌, ℕ, ◌+◌, Bool, true, false, not, cond, List, [], ◌∷◌, ◌++◌, length, map, flat_map, filter, count_by, refl, sym, ap, ap₂, ◌∙◌, arith}
+use Rattle.std.proofs.Common.{◌≡◌, ℕ, suc, ◌+◌, Bool, true, false, not, cond, List, [], ◌∷◌, ◌++◌, length, map, flat_map, refl, sym, ap, ap₂, ◌∙◌, arith}
 use Rattle.std.proofs.lemmas.List.{map-append, length-map}
 use Rattle.lane_end.specs.SendMoves.{Looked, Sent}
 use Rattle.lane_end.specs.ReceiveMoves as receiving
@@ -7,13 +7,14 @@ use Rattle.lane_end.specs.ReceiveMoves.{ReceiveMove, Took, Gave}
 use Rattle.lane_end.specs.SendParts.{frames_sent, back_counts}
 use Rattle.lane_end.specs.ReceiveParts.{frames_taken, numbers_given, see_counts}
 use Rattle.board_model.specs.declared.scenario.CallLine.{CallLine}
+use Rattle.board_model.specs.ClosedStates.{IsClosed}
 use Rattle.board_model.specs.Dealing.{keeps_buffer}
 use Rattle.board_model.specs.Journal.{PlainEntry, turned, put, again, waits, called, Visit, Taken}
-use Rattle.board_model.specs.Serial.{returned_at_once}
-use Rattle.board_model.specs.State.{Item, is_from}
+use Rattle.board_model.specs.State.{frames_from}
 use Rattle.board_model.specs.Step.{RunState, next_line, after}
 use Rattle.board_model.specs.Traffic.{visits_to, puts_in, takes_in, put_to, takes_from, taken_from, returned_by, given_in, given, backs_in, back_looks}
-use Rattle.board_model.proofs.ListsCounts.{one_if, count-cons}
+use Rattle.board_model.proofs.ClosedStates.{given_alone, closed-after, turn-given}
+use Rattle.board_model.proofs.ListsCounts.{count-append}
 use Rattle.board_model.proofs.WholeTakes.{frames_of}
 use Rattle.domain_core.specs.LaneMoves.{LaneMove, sender, receiver, sends, receives}
 use Rattle.domain_core.specs.VisitMoves.{putting, taking}
@@ -108,16 +109,16 @@ module _ {X : Type 0} (h : List LaneMove → List X) (none : h [] ≡ []) (appen
   of_run lines p f one r (e ∷ es) =
       append (entry_told lines r p e) (moves_told lines (after lines r e) p es) ∙ ap₂ (λ (xs ys : List X). xs ++ ys) (one r e) (of_run lines p f one (after lines r e) es)
 
-abbrev pub goes_back : Item → LaneMove
-goes_back i = receiver (Gave 0)
+abbrev pub goes_back : ℕ → LaneMove
+goes_back name = receiver (Gave 0)
 
 sent_putting : (fs : List (List ℕ)) → sent (putting fs) ≡ fs
 sent_putting [] = refl
 sent_putting (f ∷ fs) = ap (λ (xs : List (List ℕ)). f ∷ xs) (sent_putting fs)
 
-sent_back : (items : List Item) → sent (map goes_back items) ≡ []
+sent_back : (names : List ℕ) → sent (map goes_back names) ≡ []
 sent_back [] = refl
-sent_back (i ∷ items) = sent_back items
+sent_back (n ∷ names) = sent_back names
 
 sent_by_visit : (v : Visit) → sent (visit_told v) ≡ v.owed
 sent_by_visit v = ap frames_sent (sends_visit v (zeros v.takes)) ∙ sent_puts v.owed
@@ -127,15 +128,15 @@ sent_by_entry lines p r (turned vs) = of_visits sent refl sent_append (λ v. v.o
 sent_by_entry lines p r (put to frame) = sent_putting (puts_in p (put to frame))
 sent_by_entry lines p r (again word) = refl
 sent_by_entry lines p r (waits k) = refl
-sent_by_entry lines p r (called k a) = sent_back (filter (is_from p) (returned_by (next_line lines r) r))
+sent_by_entry lines p r (called k a) = sent_back (frames_from p (returned_by (next_line lines r) r))
 
 backs_putting : (fs : List (List ℕ)) → backs (putting fs) ≡ []
 backs_putting [] = refl
 backs_putting (f ∷ fs) = backs_putting fs
 
-backs_back : (items : List Item) → backs (map goes_back items) ≡ []
+backs_back : (names : List ℕ) → backs (map goes_back names) ≡ []
 backs_back [] = refl
-backs_back (i ∷ items) = backs_back items
+backs_back (n ∷ names) = backs_back names
 
 backs_by_visit : (v : Visit) → backs (visit_told v) ≡ v.back ∷ []
 backs_by_visit v = ap back_counts (sends_visit v (zeros v.takes)) ∙ ap (λ (ns : List ℕ). v.back ∷ ns) (puts_show_none v.owed)
@@ -149,7 +150,7 @@ backs_by_entry lines p r (turned vs) = of_visits backs refl backs_append (λ v. 
 backs_by_entry lines p r (put to frame) = backs_putting (puts_in p (put to frame))
 backs_by_entry lines p r (again word) = refl
 backs_by_entry lines p r (waits k) = refl
-backs_by_entry lines p r (called k a) = backs_back (filter (is_from p) (returned_by (next_line lines r) r))
+backs_by_entry lines p r (called k a) = backs_back (frames_from p (returned_by (next_line lines r) r))
 
 -- a visit's taking end
 pub visit_receives : (v : Visit) → receives (visit_told v) ≡ receiving.Looked v.see ∷ receives (taking (zeros v.takes) v.takes)
@@ -162,9 +163,9 @@ taken_putting : (fs : List (List ℕ)) → taken (putting fs) ≡ []
 taken_putting [] = refl
 taken_putting (f ∷ fs) = taken_putting fs
 
-taken_back : (items : List Item) → taken (map goes_back items) ≡ []
+taken_back : (names : List ℕ) → taken (map goes_back names) ≡ []
 taken_back [] = refl
-taken_back (i ∷ items) = taken_back items
+taken_back (n ∷ names) = taken_back names
 
 taken_by_visit : (v : Visit) → taken (visit_told v) ≡ frames_of v.takes
 taken_by_visit v = ap (λ (ms : List ReceiveMove). contents (frames_taken ms)) (visit_receives v) ∙ (takes-tell (zeros v.takes) v.takes (zeros_many v.takes)).frames
@@ -178,7 +179,7 @@ taken_by_entry lines p r (turned vs) = of_visits taken refl taken_append (λ v. 
 taken_by_entry lines p r (put to frame) = taken_putting (puts_in p (put to frame))
 taken_by_entry lines p r (again word) = refl
 taken_by_entry lines p r (waits k) = refl
-taken_by_entry lines p r (called k a) = taken_back (filter (is_from p) (returned_by (next_line lines r) r))
+taken_by_entry lines p r (called k a) = taken_back (frames_from p (returned_by (next_line lines r) r))
 
 frames_of_entries : (p : ℕ) (es : List PlainEntry) → flat_map (λ e. frames_of (takes_in p e)) es ≡ taken_from p es
 frames_of_entries p [] = refl
@@ -197,9 +198,9 @@ sees_putting : (fs : List (List ℕ)) → sees (putting fs) ≡ []
 sees_putting [] = refl
 sees_putting (f ∷ fs) = sees_putting fs
 
-sees_back : (items : List Item) → sees (map goes_back items) ≡ []
+sees_back : (names : List ℕ) → sees (map goes_back names) ≡ []
 sees_back [] = refl
-sees_back (i ∷ items) = sees_back items
+sees_back (n ∷ names) = sees_back names
 
 sees_by_visit : (v : Visit) → sees (visit_told v) ≡ v.see ∷ []
 sees_by_visit v = ap see_counts (visit_receives v) ∙ ap (λ (ns : List ℕ). v.see ∷ ns) (sees_taking (zeros v.takes) v.takes)
@@ -209,7 +210,7 @@ sees_by_entry lines p r (turned vs) = of_visits sees refl sees_append (λ v. v.s
 sees_by_entry lines p r (put to frame) = sees_putting (puts_in p (put to frame))
 sees_by_entry lines p r (again word) = refl
 sees_by_entry lines p r (waits k) = refl
-sees_by_entry lines p r (called k a) = sees_back (filter (is_from p) (returned_by (next_line lines r) r))
+sees_by_entry lines p r (called k a) = sees_back (frames_from p (returned_by (next_line lines r) r))
 
 -- what goes back
 
@@ -217,35 +218,28 @@ gives_putting : (fs : List (List ℕ)) → gives (putting fs) ≡ 0
 gives_putting [] = refl
 gives_putting (f ∷ fs) = gives_putting fs
 
-gives_back : (p : ℕ) (items : List Item) → gives (map goes_back (filter (is_from p) items)) ≡ count_by (is_from p) items
-gives_back p [] = refl
-gives_back p (i ∷ items) = go (is_from p i) refl (gives_back p items)
-  where
-    go : (b : Bool) → is_from p i ≡ b → gives (map goes_back (filter (is_from p) items)) ≡ count_by (is_from p) items → gives (map goes_back (cond b (i ∷ filter (is_from p) items) (filter (is_from p) items))) ≡ count_by (is_from p) (i ∷ items)
-    go true e rest = omega (arith, rest, count-cons (is_from p) i items, ap one_if e)
-    go false e rest = omega (arith, rest, count-cons (is_from p) i items, ap one_if e)
+gives_back : (names : List ℕ) → gives (map goes_back names) ≡ length names
+gives_back [] = refl
+gives_back (n ∷ names) = ap suc (gives_back names)
 
-gives_by_visit : (v : Visit) → gives (visit_told v) ≡ returned_at_once v.takes
+gives_by_visit : (v : Visit) → gives (visit_told v) ≡ given_alone v.takes
 gives_by_visit v = ap (λ (ms : List ReceiveMove). length (numbers_given ms)) (visit_receives v) ∙ (takes-tell (zeros v.takes) v.takes (zeros_many v.takes)).given
 
-at_once_append : (ts us : List Taken) → returned_at_once (ts ++ us) ≡ returned_at_once ts + returned_at_once us
-at_once_append [] us = omega arith
-at_once_append (t ∷ ts) us = omega (arith, at_once_append ts us, count-cons (λ (x : Taken). not (keeps_buffer x.fate)) t (ts ++ us), count-cons (λ (x : Taken). not (keeps_buffer x.fate)) t ts)
-
-gives_by_visits : (vs : List Visit) → gives (flat_map visit_told vs) ≡ returned_at_once (flat_map (λ v. v.takes) vs)
+gives_by_visits : (vs : List Visit) → gives (flat_map visit_told vs) ≡ given_alone (flat_map (λ v. v.takes) vs)
 gives_by_visits [] = refl
-gives_by_visits (v ∷ vs) = omega (arith, gives_append (visit_told v) (flat_map visit_told vs), gives_by_visit v, gives_by_visits vs, at_once_append v.takes (flat_map (λ (u : Visit). u.takes) vs))
+gives_by_visits (v ∷ vs) = omega (arith, gives_append (visit_told v) (flat_map visit_told vs), gives_by_visit v, gives_by_visits vs, count-append (λ (t : Taken). not (keeps_buffer t.fate)) v.takes (flat_map (λ (u : Visit). u.takes) vs))
 
-gives_by_entry : (lines : List CallLine) (p : ℕ) (r : RunState) (e : PlainEntry) → gives (entry_told lines r p e) ≡ given_in lines r p e
-gives_by_entry lines p r (turned vs) = gives_by_visits (visits_to p vs)
-gives_by_entry lines p r (put to frame) = gives_putting (puts_in p (put to frame))
-gives_by_entry lines p r (again word) = refl
-gives_by_entry lines p r (waits k) = refl
-gives_by_entry lines p r (called k a) = gives_back p (returned_by (next_line lines r) r)
+gives_by_entry : (lines : List CallLine) (p : ℕ) (r : RunState) (e : PlainEntry) → IsClosed r.state → gives (entry_told lines r p e) ≡ given_in lines r p e
+gives_by_entry lines p r (turned vs) closed = gives_by_visits (visits_to p vs) ∙ sym (turn-given p r.state vs closed)
+gives_by_entry lines p r (put to frame) closed = gives_putting (puts_in p (put to frame))
+gives_by_entry lines p r (again word) closed = refl
+gives_by_entry lines p r (waits k) closed = refl
+gives_by_entry lines p r (called k a) closed = gives_back (frames_from p (returned_by (next_line lines r) r))
 
-gives_by_run : (lines : List CallLine) (p : ℕ) (r : RunState) (es : List PlainEntry) → gives (moves_told lines r p es) ≡ given lines r p es
-gives_by_run lines p r [] = refl
-gives_by_run lines p r (e ∷ es) = omega (arith, gives_append (entry_told lines r p e) (moves_told lines (after lines r e) p es), gives_by_entry lines p r e, gives_by_run lines p (after lines r e) es)
+gives_by_run : (lines : List CallLine) (p : ℕ) (r : RunState) (es : List PlainEntry) → IsClosed r.state → gives (moves_told lines r p es) ≡ given lines r p es
+gives_by_run lines p r [] closed = refl
+gives_by_run lines p r (e ∷ es) closed =
+    omega (arith, gives_append (entry_told lines r p e) (moves_told lines (after lines r e) p es), gives_by_entry lines p r e closed, gives_by_run lines p (after lines r e) es (closed-after lines r e closed))
 
 -- ---- the traffic
 
@@ -257,13 +251,13 @@ pub record HasTraffic (lines : List CallLine) (r : RunState) (p : ℕ) (es : Lis
   pub sees_are : see_counts (receives ms) ≡ see_looks p es
   pub given_is : length (numbers_given (receives ms)) ≡ given lines r p es
 
-pub has_traffic : (lines : List CallLine) (r : RunState) (p : ℕ) (es : List PlainEntry) (ms : List LaneMove) → map unnumbered ms ≡ moves_told lines r p es → HasTraffic lines r p es ms
-has_traffic lines r p es ms told =
+pub has_traffic : (lines : List CallLine) (r : RunState) (p : ℕ) (es : List PlainEntry) (ms : List LaneMove) → IsClosed r.state → map unnumbered ms ≡ moves_told lines r p es → HasTraffic lines r p es ms
+has_traffic lines r p es ms closed told =
     let alike = unnumbered_alike ms in
     record {
       put_is = alike.sent_is ∙ ap sent told ∙ of_run sent refl sent_append lines p (puts_in p) (sent_by_entry lines p) r es;
       backs_are = alike.backs_is ∙ ap backs told ∙ of_run backs refl backs_append lines p (backs_in p) (backs_by_entry lines p) r es;
       taken_is = alike.taken_is ∙ ap taken told ∙ of_run taken refl taken_append lines p (λ e. frames_of (takes_in p e)) (taken_by_entry lines p) r es ∙ frames_of_entries p es;
       sees_are = alike.sees_is ∙ ap sees told ∙ of_run sees refl sees_append lines p (sees_in p) (sees_by_entry lines p) r es;
-      given_is = alike.gives_is ∙ ap gives told ∙ gives_by_run lines p r es;
+      given_is = alike.gives_is ∙ ap gives told ∙ gives_by_run lines p r es closed;
     }

@@ -5,6 +5,7 @@ use Rattle.std.specs.List.{AllByRecursion}
 use Rattle.lane_end.specs.Halves.{RingSend-stays, RingRecv-stays}
 use Rattle.lane_end.specs.AnySender.{AnySends}
 use Rattle.lane_end.specs.AnyReceiver.{AnyReceives}
+use Rattle.board_model.specs.ClosedStates.{IsClosed}
 use Rattle.board_model.specs.Scenario.{Lane}
 use Rattle.board_model.specs.Journal.{Visit}
 use Rattle.board_model.specs.State.{DomainState}
@@ -191,7 +192,7 @@ module _ (d d' : RunDomain) (visits : List Visit) (numbers : List (List ℕ)) (t
       (all-with (IsPeerTurn n) (λ t. near_before z.turns (peer_in t) ≡ near_to t.old) (λ t. IsPeerTurn n t × (near_before z.turns (peer_in t) ≡ near_to t.old)) (λ t a b. (a, b)) z.turns z.each (near-each (λ t. t.old) z.turns apart))
       (near-each (λ t. t.new) z.turns apart)))
 
-  module _ (far : ℕ → ℕ → Near) (ls : List Lane) (loads : List Load) (exact : AllByRecursion (ExactAt far d) visits) where
+  module _ (far : ℕ → ℕ → Near) (ls : List Lane) (loads : List Load) (closed : IsClosed d.state) (exact : AllByRecursion (ExactAt far d) visits) where
     exact-turns : AllByRecursion (IsExactTurn n far) z.turns
     exact-turns =
         all-with (λ t. ExactAt far d t.visit) (λ t. near_before z.turns (peer_in t) ≡ near_to t.old) (IsExactTurn n far)
@@ -202,7 +203,7 @@ module _ (d d' : RunDomain) (visits : List Visit) (numbers : List (List ℕ)) (t
     turned-lanes both stands =
         let after : (q : ℕ) → near_after (near_before z.turns) z.turns q ≡ near_of d' q
         = λ q. near-own (near_before z.turns) z.turns q apart refl ∙ sym (then q) in
-        let t = turn-stands n far ls z.turns d.state loads (near_before z.turns) refl (subst (AreVisits d.state) z.visits turns.allowed.allowed) z.each apart (near-each (λ t. t.old) z.turns apart)
+        let t = turn-stands n far ls z.turns d.state loads (near_before z.turns) refl closed (subst (AreVisits d.state) z.visits turns.allowed.allowed) z.each apart (near-each (λ t. t.old) z.turns apart)
         exact-turns (subst (AllByRecursion (HasBoth ls n)) peers-in both)
         (all-weaken (Stands n (near_of d) far loads) (Stands n (near_before z.turns) far loads) (stands-same n (near_of d) (near_before z.turns) far loads before) ls stands) in
         record {

@@ -5,9 +5,11 @@ use Rattle.std.specs.List.{AllByRecursion}
 use Rattle.board_model.specs.Scenario.{Lane}
 use Rattle.board_model.specs.Journal.{Visit}
 use Rattle.board_model.specs.State.{DomainState}
-use Rattle.board_model.specs.Turn.{after_visit, IsVisit, AreVisits}
+use Rattle.board_model.specs.ClosedStates.{IsClosed}
+use Rattle.board_model.specs.Turn.{after_visit, nameless, visit_deeds, IsVisit, AreVisits}
 use Rattle.board_model.specs.LinkedBoard.{Differ}
 use Rattle.board_model.specs.Loads.{Load, frames_in, returned_in, returned_on, frames_on, with_load, frames_due, frames_seen, visit_to, visits_to_all, loads_after}
+use Rattle.board_model.proofs.ClosedStates.{closed-deeds, returned-alone}
 use Rattle.board_model.proofs.ListsApart.{all-unmap}
 use Rattle.board_model.proofs.MessageAlls.{all-weaken, all-with}
 use Rattle.board_model.proofs.WholeHas.{Has, has-gives}
@@ -18,7 +20,7 @@ use Rattle.board_model.proofs.WholeTurns.{turn_number}
 use Rattle.board_runner.specs.Near.{Near, RunEnds, near_to}
 use Rattle.board_runner.proofs.NearEnds.{NearVisited, OwnVisited}
 use Rattle.board_runner.proofs.TurnVisits.{owed-due, visit-is}
-use Rattle.board_runner.proofs.LanesNear.{LaneStands, Exact, rest-on, near_now, with_near, loads_by, CanVisit, lane-visited}
+use Rattle.board_runner.proofs.LanesNear.{LaneStands, Exact, rest-on, near_now, with_near, loads_with, loads_by, CanVisit, lane-visited}
 
 -- a lane of the board stands at its ends
 abbrev pub Stands : ℕ → (ℕ → Near) → (ℕ → ℕ → Near) → List Load → Lane → Type 0
@@ -144,10 +146,10 @@ module _ (n : ℕ) (far : ℕ → ℕ → Near) (ls : List Lane) where
       all-with (λ t. peer_in t ≡ p → ⊥) (λ t. own (peer_in t) ≡ near_to t.old) (λ t. with_near p new own (peer_in t) ≡ near_to t.old)
       (λ t other at. ap (λ (b : Bool). cond b new (own (peer_in t))) (ne_eqb (peer_in t) p other) ∙ at) ts (all-unmap (λ q. q ≡ p → ⊥) peer_in ts differ) near
 
-  pub turn-stands : (ts : List PeerTurn) (s : DomainState) (loads : List Load) (own : ℕ → Near) → s.number ≡ n → AreVisits s (visits_in ts) → AllByRecursion (IsPeerTurn n) ts → Differ (peers_in ts) → AllByRecursion (λ t. own (peer_in t) ≡ near_to t.old) ts
+  pub turn-stands : (ts : List PeerTurn) (s : DomainState) (loads : List Load) (own : ℕ → Near) → s.number ≡ n → IsClosed s → AreVisits s (visits_in ts) → AllByRecursion (IsPeerTurn n) ts → Differ (peers_in ts) → AllByRecursion (λ t. own (peer_in t) ≡ near_to t.old) ts
       → AllByRecursion (IsExactTurn n far) ts → AllByRecursion (HasBoth ls n) (peers_in ts) → AllByRecursion (Stands n own far loads) ls → TurnStands n far ls s loads own ts
-  turn-stands [] s loads own e are each differ near exact both stands = record { visits = refl; lanes = stands }
-  turn-stands (t ∷ ts) s loads own e are each differ near exact both stands =
+  turn-stands [] s loads own e closed are each differ near exact both stands = record { visits = refl; lanes = stands }
+  turn-stands (t ∷ ts) s loads own e closed are each differ near exact both stands =
       let v = t.visit in
       let p = peer_in t in
       let new = near_to t.new in
@@ -160,13 +162,17 @@ module _ (n : ℕ) (far : ℕ → ℕ → Near) (ls : List Lane) where
       let is : v ≡ visit_to s loads p = visit-here n own far v new loads can s e are.0 out into in
       let after : AllByRecursion (Stands n (with_near p new own) far (loads_by n v loads)) ls
       = all-weaken (Stands n own far loads) (Stands n (with_near p new own) far (loads_by n v loads)) (λ l h. lane-visited n own far v new loads can l.sender l.receiver h) ls stands in
-      let rest = turn-stands ts (after_visit s v) (loads_by n v loads) (with_near p new own) (turn_number s (v ∷ []) ∙ e) are.1 each.1 differ.1 (others_near p new own ts differ.0 near.1) exact.1 both.1 after in
+      let rest = turn-stands ts (after_visit s v) (loads_by n v loads) (with_near p new own) (turn_number s (v ∷ []) ∙ e) (closed-deeds s (visit_deeds nameless v) closed) are.1 each.1 differ.1 (others_near p new own ts differ.0 near.1) exact.1 both.1 after in
+      let w : Visit = visit_to s loads p in
+      let gives = sym (returned-alone s w closed) in
       record {
         visits =
             ap (λ (vs : List Visit). v ∷ vs) rest.visits
             ∙ ap (λ (x : Visit). x ∷ visits_to_all (after_visit s x) (loads_by n x loads) (peers_in ts)) is
-            ∙ ap (λ (m : ℕ). visit_to s loads p ∷ visits_to_all (after_visit s (visit_to s loads p)) (loads_by m (visit_to s loads p) loads) (peers_in ts)) (sym e);
+            ∙ ap (λ (m : ℕ). w ∷ visits_to_all (after_visit s w) (loads_by m w loads) (peers_in ts)) (sym e)
+            ∙ ap (λ (k : ℕ). w ∷ visits_to_all (after_visit s w) (loads_with s.number w k loads) (peers_in ts)) gives;
         lanes =
-            subst (λ (m : ℕ). AllByRecursion (Stands n (near_after own (t ∷ ts)) far (loads_after (after_visit s (visit_to s loads p)) (loads_by m (visit_to s loads p) loads) (peers_in ts))) ls) (sym e)
-            (subst (λ (x : Visit). AllByRecursion (Stands n (near_after own (t ∷ ts)) far (loads_after (after_visit s x) (loads_by n x loads) (peers_in ts))) ls) is rest.lanes);
+            subst (λ (k : ℕ). AllByRecursion (Stands n (near_after own (t ∷ ts)) far (loads_after (after_visit s w) (loads_with s.number w k loads) (peers_in ts))) ls) gives
+            (subst (λ (m : ℕ). AllByRecursion (Stands n (near_after own (t ∷ ts)) far (loads_after (after_visit s w) (loads_by m w loads) (peers_in ts))) ls) (sym e)
+            (subst (λ (x : Visit). AllByRecursion (Stands n (near_after own (t ∷ ts)) far (loads_after (after_visit s x) (loads_by n x loads) (peers_in ts))) ls) is rest.lanes));
       }

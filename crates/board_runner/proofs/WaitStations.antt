@@ -10,7 +10,6 @@ use Rattle.board_model.specs.declared.scenario.Scenario.{Scenario}
 use Rattle.board_model.specs.Answer.{answer, puts}
 use Rattle.board_model.specs.CallChanges.{effect, returned}
 use Rattle.board_model.specs.DomainCall.{DomainCall}
-use Rattle.board_model.specs.Given.{frames_from}
 use Rattle.board_model.specs.Journal.{Line, PlainAnswer, refuses, Visit, joined, noted, noted_all, wait_line, waits}
 use Rattle.board_model.specs.Labels.{call_of, packet_given, success_request}
 use Rattle.board_model.specs.Lists.{without}
@@ -96,6 +95,7 @@ begun-station s t st j h told =
       held = h.held;
       dropped = omega (arith, h.dropped, ap (sum_by (deleted_in sc)) h.told, ap (sum_by (deleted_in sc)) lines, deleted-noted sc t.entries (waits k), sum_by-cons (deleted_in sc) (wait_line k) []);
       own = h.own;
+      closed = h.closed;
       domain_number = h.domain_number;
       peers = h.peers;
       matched = h.matched;
@@ -125,6 +125,7 @@ nothing-station s t st node call d a h does nothing =
       };
       dropped = h.dropped;
       own = h.own;
+      closed = h.closed;
       domain_number = h.domain_number;
       peers = same_peers ∙ h.peers;
       matched =

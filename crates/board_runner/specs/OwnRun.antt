@@ -1,6 +1,6 @@
 -- A domain that runs its script on its own, whatever the other domains do.
 -- Source: docs/PROFILE.md, "Runs", "Lanes" and "Tries". Between two calls of a line with tries it makes only the turns of its calls.
-use Rattle.std.specs.Prelude.{◌≡◌, ℕ, ◌+◌, ◌*◌, ◌≤◌, ◌^◌, List, [], ◌∷◌, ◌++◌, map, filter, slice_get, None, Some}
+use Rattle.std.specs.Prelude.{◌≡◌, ℕ, ◌+◌, ◌*◌, ◌≤◌, ◌^◌, List, [], ◌∷◌, ◌++◌, map, slice_get, None, Some}
 use Rattle.std.specs.List.{AllByRecursion, flat_map}
 use Rattle.lane_end.specs.AnySender.{AnySends}
 use Rattle.lane_end.specs.AnyReceiver.{AnyReceives}
@@ -13,7 +13,7 @@ use Rattle.board_model.specs.Deeds.{Deed, after_deeds, along}
 use Rattle.board_model.specs.Journal.{PlainEntry, turned, put, again, waits, called, Visit}
 use Rattle.board_model.specs.JournalDeeds.{entry_deeds}
 use Rattle.board_model.specs.Language.{IsLawfulBoard}
-use Rattle.board_model.specs.State.{DomainState, is_from}
+use Rattle.board_model.specs.State.{DomainState, frames_from}
 use Rattle.board_model.specs.Step.{RunState, HasNoPuts, next_line, after}
 use Rattle.board_model.specs.Run.{start, Leads, left_by, IsDomainRun, IsWhole}
 use Rattle.board_model.specs.SerialRun as run
@@ -47,7 +47,7 @@ entry_told lines r peer (turned visits) = flat_map visit_told (visits_to peer vi
 entry_told lines r peer (put to frame) = putting (puts_in peer (put to frame))
 entry_told lines r peer (again word) = []
 entry_told lines r peer (waits k) = []
-entry_told lines r peer (called k a) = map (λ i. receiver (Gave 0)) (filter (is_from peer) (returned_by (next_line lines r) r))
+entry_told lines r peer (called k a) = map (λ name. receiver (Gave 0)) (frames_from peer (returned_by (next_line lines r) r))
 
 -- and of a run
 abbrev pub moves_told : List CallLine → RunState → ℕ → List PlainEntry → List LaneMove
