@@ -87,7 +87,7 @@ fn assert_payloads<'a, T: Threads + Sync + Abort>(
 }
 
 /// Each letter, and both ends of each range.
-static LETTERS: [Payload<'static>; 19] = [
+static LETTERS: [Payload<'static>; 22] = [
     ("0800", "4d01 01 00 00000000", "msg 0 -"),
     ("0900", "4d01 01 03 00000000 ff", "msg 3 ff"),
     ("0800", "4d01 02 00 01000000", "connect 1 packet"),
@@ -119,6 +119,22 @@ static LETTERS: [Payload<'static>; 19] = [
     ),
     ("0800", "4d01 09 00 0a000000", "send_close 10"),
     ("0800", "4d01 0a 00 0b000000", "recv_close 11"),
+    // Parts, by version 2.
+    (
+        "1100",
+        "4d02 01 00 00000000 e901 e401 6161616161",
+        "msg_part 0 489 484 6161616161",
+    ),
+    (
+        "0d00",
+        "4d02 01 03 00000000 0020 ff1f 07",
+        "msg_part 3 8192 8191 07",
+    ),
+    (
+        "0e00",
+        "4d02 07 00 08000000 0200 0000 ff00",
+        "packet_part 8 2 0 ff00",
+    ),
 ];
 
 #[test]
@@ -127,12 +143,12 @@ fn letters(rt: HostRuntime) -> Result<(), Fail> {
 }
 
 /// Each fault of a letter, and of two neighbours in the order the first.
-static FAULTS_OF_LETTERS: [Payload<'static>; 41] = [
+static FAULTS_OF_LETTERS: [Payload<'static>; 55] = [
     ("0700", "00010100 000000", "12 payload_short"),
     ("0700", "4d010100 00000000", "12 payload_short"),
     ("0800", "4c020100 00000000", "16 magic"),
     ("0800", "4d000000 00000000", "17 version"),
-    ("0800", "4d020000 00000000", "17 version"),
+    ("0800", "4d030000 00000000", "17 version"),
     ("0800", "4d0100ff 00000000", "18 kind"),
     ("0800", "4d010b00 01000000", "18 kind"),
     ("0800", "4d01ff00 01000000", "18 kind"),
@@ -168,6 +184,21 @@ static FAULTS_OF_LETTERS: [Payload<'static>; 41] = [
     ("0f00", "4d010808 01000000 00000000000000", "12 size"),
     ("0900", "4d010900 01000000 00", "12 size"),
     ("0900", "4d010a00 01000000 00", "12 size"),
+    // Parts, by version 2: of messages and packets alone, of at least one byte, and within a whole of at most 8,192.
+    ("0700", "4d020100 000000", "12 payload_short"),
+    ("0800", "4d020000 00000000", "18 kind"),
+    ("0d00", "4d020200 01000000 0100 0000 ff", "18 kind"),
+    ("0d00", "4d020800 01000000 0100 0000 ff", "18 kind"),
+    ("0d00", "4d020b00 01000000 0100 0000 ff", "18 kind"),
+    ("0d00", "4d020104 00000000 0100 0000 ff", "19 argument"),
+    ("0d00", "4d020701 01000000 0100 0000 ff", "19 argument"),
+    ("0d00", "4d020100 01000000 0100 0000 ff", "20 channel"),
+    ("0d00", "4d020700 00000000 0100 0000 ff", "20 channel"),
+    ("0800", "4d020100 00000000", "12 size"),
+    ("0c00", "4d020700 01000000 0100 0000", "12 size"),
+    ("0d00", "4d020100 00000000 0000 0000 ff", "12 size"),
+    ("0d00", "4d020100 00000000 0120 0000 ff", "12 size"),
+    ("1100", "4d020100 00000000 e901 e501 6161616161", "12 size"),
     // The header's length is asked before the payload.
     ("0900", "00000000 00000000", "12 header_len"),
 ];
