@@ -15,187 +15,68 @@ fn room_for(alloc: Global, line: &[u8]) -> Result<Vec<u8>, AllocError>
     vec![in alloc; 0u8; line.len()]
 }
 
-/// A line without its newline, and how its entry is shown.
-const ENTRIES: [(&str, &str); 58] = [
-    ("wait 3", "WaitStart { number: 3 }"),
-    ("wait 0", "WaitStart { number: 0 }"),
-    ("wait 4294967295", "WaitStart { number: 4294967295 }"),
-    (
-        "call 5 done 1 accepted",
-        "Called { number: 5, answer: Done { place: Some(1), result: Accepted } }",
-    ),
-    (
-        "call 5 done 8 rejected busy",
-        "Called { number: 5, answer: Done { place: Some(8), result: Rejected(Busy) } }",
-    ),
-    (
-        "call 5 done 2 1030",
-        "Called { number: 5, answer: Done { place: None, result: Bytes { size: 2, bytes: [16, 48] } } }",
-    ),
-    (
-        "call 5 done 3 1030",
-        "Called { number: 5, answer: Done { place: Some(3), result: Address(1030) } }",
-    ),
-    (
-        "call 5 done 2 2 6869",
-        "Called { number: 5, answer: Done { place: Some(2), result: Bytes { size: 2, bytes: [104, 105] } } }",
-    ),
-    (
-        "call 5 done 2 truncated 3 6869",
-        "Called { number: 5, answer: Done { place: Some(2), result: Bytes { size: 3, bytes: [104, 105] } } }",
-    ),
-    (
-        "call 5 done 255 chan_closed",
-        "Called { number: 5, answer: Done { place: Some(255), result: Ended(ChanClosed) } }",
-    ),
-    ("turn", "Turn"),
-    ("idle 0", "Idle { turns: 0 }"),
-    (
-        "idle 18446744073709551615",
-        "Idle { turns: 18446744073709551615 }",
-    ),
-    ("back 7 1", "Back { peer: 7, count: 1 }"),
-    ("back 255 0", "Back { peer: 255, count: 0 }"),
-    ("see 0 8", "See { peer: 0, count: 8 }"),
-    ("see 10 4294967295", "See { peer: 10, count: 4294967295 }"),
-    ("put 1 -", "Put { peer: 1, frame: [] }"),
-    ("put 1 00", "Put { peer: 1, frame: [0] }"),
-    ("put 2 0af9", "Put { peer: 2, frame: [10, 249] }"),
-    ("take 3 - acted", "Take { peer: 3, frame: [], fate: Acted }"),
-    (
-        "take 0 6869 queued",
-        "Take { peer: 0, frame: [104, 105], fate: Queued }",
-    ),
-    ("again empty", "Again { word: Empty }"),
-    ("spin 4 no_buffer", "Spin { times: 4, word: NoBuffer }"),
-    ("spin 0 pending", "Spin { times: 0, word: Pending }"),
-    ("call 1 ok", "Called { number: 1, answer: Ok }"),
-    (
-        "call 0 timeout",
-        "Called { number: 0, answer: Refused(Timeout) }",
-    ),
-    (
-        "call 2 ok 1024",
-        "Called { number: 2, answer: Number(1024) }",
-    ),
-    (
-        "call 2 ok 18446744073709551615",
-        "Called { number: 2, answer: Number(18446744073709551615) }",
-    ),
-    (
-        "call 3 ok 0 -",
-        "Called { number: 3, answer: Bytes { size: 0, bytes: [] } }",
-    ),
-    (
-        "call 3 ok 2 6869",
-        "Called { number: 3, answer: Bytes { size: 2, bytes: [104, 105] } }",
-    ),
-    (
-        "call 3 ok 1 66",
-        "Called { number: 3, answer: Bytes { size: 1, bytes: [102] } }",
-    ),
-    (
-        "call 3 ok 1 6667",
-        "Called { number: 3, answer: Bytes { size: 1, bytes: [102, 103] } }",
-    ),
-    (
-        "call 3 ok 0 11",
-        "Called { number: 3, answer: Bytes { size: 0, bytes: [17] } }",
-    ),
-    (
-        "call 3 ok 5 1",
-        "Called { number: 3, answer: Channel { request: 5, channel: 1 } }",
-    ),
-    (
-        "call 3 ok 0 1",
-        "Called { number: 3, answer: Channel { request: 0, channel: 1 } }",
-    ),
-    (
-        "call 3 ok 3 6869",
-        "Called { number: 3, answer: Channel { request: 3, channel: 6869 } }",
-    ),
-    (
-        "call 3 ok 4294967296 12",
-        "Called { number: 3, answer: Channel { request: 4294967296, channel: 12 } }",
-    ),
-    (
-        "call 3 ok 18446744073709551615 4294967295",
-        "Called { number: 3, answer: Channel { request: 18446744073709551615, channel: 4294967295 } }",
-    ),
-    (
-        "call 4 truncated 3 6869",
-        "Called { number: 4, answer: Bytes { size: 3, bytes: [104, 105] } }",
-    ),
-    (
-        "call 4 truncated 4294967295 -",
-        "Called { number: 4, answer: Bytes { size: 4294967295, bytes: [] } }",
-    ),
-    (
-        "call 4294967295 done 1030",
-        "Called { number: 4294967295, answer: Done { place: None, result: Address(1030) } }",
-    ),
-    (
-        "call 5 done 0",
-        "Called { number: 5, answer: Done { place: None, result: Address(0) } }",
-    ),
-    (
-        "call 5 done 4294967295",
-        "Called { number: 5, answer: Done { place: None, result: Address(4294967295) } }",
-    ),
-    (
-        "call 5 done accepted",
-        "Called { number: 5, answer: Done { place: None, result: Accepted } }",
-    ),
-    (
-        "call 5 done rejected no_endpoint",
-        "Called { number: 5, answer: Done { place: None, result: Rejected(NoEndpoint) } }",
-    ),
-    (
-        "call 5 done rejected connected",
-        "Called { number: 5, answer: Done { place: None, result: Rejected(Connected) } }",
-    ),
-    (
-        "call 5 done rejected busy",
-        "Called { number: 5, answer: Done { place: None, result: Rejected(Busy) } }",
-    ),
-    (
-        "call 6 done 2 6869",
-        "Called { number: 6, answer: Done { place: None, result: Bytes { size: 2, bytes: [104, 105] } } }",
-    ),
-    (
-        "call 6 done 0 -",
-        "Called { number: 6, answer: Done { place: None, result: Bytes { size: 0, bytes: [] } } }",
-    ),
-    (
-        "call 6 done truncated 9 6869",
-        "Called { number: 6, answer: Done { place: None, result: Bytes { size: 9, bytes: [104, 105] } } }",
-    ),
-    (
-        "call 6 done truncated 1 -",
-        "Called { number: 6, answer: Done { place: None, result: Bytes { size: 1, bytes: [] } } }",
-    ),
-    (
-        "call 7 done endp_invalid",
-        "Called { number: 7, answer: Done { place: None, result: Ended(EndpInvalid) } }",
-    ),
-    (
-        "call 7 done chan_closed",
-        "Called { number: 7, answer: Done { place: None, result: Ended(ChanClosed) } }",
-    ),
-    (
-        "take 1 ff no_endpoint",
-        "Take { peer: 1, frame: [255], fate: NoEndpoint }",
-    ),
-    (
-        "take 1 ff on_channel",
-        "Take { peer: 1, frame: [255], fate: OnChannel }",
-    ),
-    ("again on_channel", "Again { word: OnChannel }"),
-    (
-        "call 8 no_buffer",
-        "Called { number: 8, answer: Refused(NoBuffer) }",
-    ),
-];
+/// Lines without their newlines, and how the entry of each is shown. One text, since each text that a table lends is proved to
+/// be valid apart from all others.
+static ENTRIES: &str = "\
+wait 3 => WaitStart { number: 3 }
+wait 0 => WaitStart { number: 0 }
+wait 4294967295 => WaitStart { number: 4294967295 }
+call 5 done 1 accepted => Called { number: 5, answer: Done { place: Some(1), result: Accepted } }
+call 5 done 8 rejected busy => Called { number: 5, answer: Done { place: Some(8), result: Rejected(Busy) } }
+call 5 done 2 1030 => Called { number: 5, answer: Done { place: None, result: Bytes { size: 2, bytes: [16, 48] } } }
+call 5 done 3 1030 => Called { number: 5, answer: Done { place: Some(3), result: Address(1030) } }
+call 5 done 2 2 6869 => Called { number: 5, answer: Done { place: Some(2), result: Bytes { size: 2, bytes: [104, 105] } } }
+call 5 done 2 truncated 3 6869 => Called { number: 5, answer: Done { place: Some(2), result: Bytes { size: 3, bytes: [104, 105] } } }
+call 5 done 255 chan_closed => Called { number: 5, answer: Done { place: Some(255), result: Ended(ChanClosed) } }
+turn => Turn
+idle 0 => Idle { turns: 0 }
+idle 18446744073709551615 => Idle { turns: 18446744073709551615 }
+back 7 1 => Back { peer: 7, count: 1 }
+back 255 0 => Back { peer: 255, count: 0 }
+see 0 8 => See { peer: 0, count: 8 }
+see 10 4294967295 => See { peer: 10, count: 4294967295 }
+put 1 - => Put { peer: 1, frame: [] }
+put 1 00 => Put { peer: 1, frame: [0] }
+put 2 0af9 => Put { peer: 2, frame: [10, 249] }
+take 3 - acted => Take { peer: 3, frame: [], fate: Acted }
+take 0 6869 queued => Take { peer: 0, frame: [104, 105], fate: Queued }
+again empty => Again { word: Empty }
+spin 4 no_buffer => Spin { times: 4, word: NoBuffer }
+spin 0 pending => Spin { times: 0, word: Pending }
+call 1 ok => Called { number: 1, answer: Ok }
+call 0 timeout => Called { number: 0, answer: Refused(Timeout) }
+call 2 ok 1024 => Called { number: 2, answer: Number(1024) }
+call 2 ok 18446744073709551615 => Called { number: 2, answer: Number(18446744073709551615) }
+call 3 ok 0 - => Called { number: 3, answer: Bytes { size: 0, bytes: [] } }
+call 3 ok 2 6869 => Called { number: 3, answer: Bytes { size: 2, bytes: [104, 105] } }
+call 3 ok 1 66 => Called { number: 3, answer: Bytes { size: 1, bytes: [102] } }
+call 3 ok 1 6667 => Called { number: 3, answer: Bytes { size: 1, bytes: [102, 103] } }
+call 3 ok 0 11 => Called { number: 3, answer: Bytes { size: 0, bytes: [17] } }
+call 3 ok 5 1 => Called { number: 3, answer: Channel { request: 5, channel: 1 } }
+call 3 ok 0 1 => Called { number: 3, answer: Channel { request: 0, channel: 1 } }
+call 3 ok 3 6869 => Called { number: 3, answer: Channel { request: 3, channel: 6869 } }
+call 3 ok 4294967296 12 => Called { number: 3, answer: Channel { request: 4294967296, channel: 12 } }
+call 3 ok 18446744073709551615 4294967295 => Called { number: 3, answer: Channel { request: 18446744073709551615, channel: 4294967295 } }
+call 4 truncated 3 6869 => Called { number: 4, answer: Bytes { size: 3, bytes: [104, 105] } }
+call 4 truncated 4294967295 - => Called { number: 4, answer: Bytes { size: 4294967295, bytes: [] } }
+call 4294967295 done 1030 => Called { number: 4294967295, answer: Done { place: None, result: Address(1030) } }
+call 5 done 0 => Called { number: 5, answer: Done { place: None, result: Address(0) } }
+call 5 done 4294967295 => Called { number: 5, answer: Done { place: None, result: Address(4294967295) } }
+call 5 done accepted => Called { number: 5, answer: Done { place: None, result: Accepted } }
+call 5 done rejected no_endpoint => Called { number: 5, answer: Done { place: None, result: Rejected(NoEndpoint) } }
+call 5 done rejected connected => Called { number: 5, answer: Done { place: None, result: Rejected(Connected) } }
+call 5 done rejected busy => Called { number: 5, answer: Done { place: None, result: Rejected(Busy) } }
+call 6 done 2 6869 => Called { number: 6, answer: Done { place: None, result: Bytes { size: 2, bytes: [104, 105] } } }
+call 6 done 0 - => Called { number: 6, answer: Done { place: None, result: Bytes { size: 0, bytes: [] } } }
+call 6 done truncated 9 6869 => Called { number: 6, answer: Done { place: None, result: Bytes { size: 9, bytes: [104, 105] } } }
+call 6 done truncated 1 - => Called { number: 6, answer: Done { place: None, result: Bytes { size: 1, bytes: [] } } }
+call 7 done endp_invalid => Called { number: 7, answer: Done { place: None, result: Ended(EndpInvalid) } }
+call 7 done chan_closed => Called { number: 7, answer: Done { place: None, result: Ended(ChanClosed) } }
+take 1 ff no_endpoint => Take { peer: 1, frame: [255], fate: NoEndpoint }
+take 1 ff on_channel => Take { peer: 1, frame: [255], fate: OnChannel }
+again on_channel => Again { word: OnChannel }
+call 8 no_buffer => Called { number: 8, answer: Refused(NoBuffer) }
+";
 
 /// Whether a line is read as an entry that is shown so.
 fn is_shown(alloc: Global, line: &[u8], shown: &str) -> Result<bool, AllocError> {
@@ -220,16 +101,24 @@ fn is_written_back(alloc: Global, line: &[u8]) -> Result<bool, AllocError> {
     Ok(written && sink.written().split_last() == Some((&b'\n', line)))
 }
 
+/// Whether the line of a row is read as the entry that is shown so, and written back.
+fn holds(alloc: Global, row: &str) -> Result<bool, AllocError> {
+    let Some((line, shown)) = row.split_once(" => ") else {
+        return Ok(false);
+    };
+    let line = line.as_bytes();
+    Ok(is_shown(alloc, line, shown)? && is_written_back(alloc, line)?)
+}
+
 #[test]
 fn entries_are_read_and_written(rt: HostRuntime) -> Result<(), Fail> {
-    for (line, shown) in ENTRIES {
-        assert!(rt; is_shown(rt.alloc(), line.as_bytes(), shown)?, "{line}");
-        assert!(rt; is_written_back(rt.alloc(), line.as_bytes())?, "{line}");
+    for row in ENTRIES.lines() {
+        assert!(rt; holds(rt.alloc(), row)?, "{row}");
     }
     Ok(())
 }
 
-const REFUSALS: [&str; 29] = [
+static REFUSALS: [&str; 29] = [
     "node_invalid",
     "exists_already",
     "endp_limit",
@@ -261,7 +150,7 @@ const REFUSALS: [&str; 29] = [
     "raw_sound",
 ];
 
-const FATES: [&str; 25] = [
+static FATES: [&str; 25] = [
     "frame_short",
     "frame_long",
     "header_len",
@@ -289,21 +178,23 @@ const FATES: [&str; 25] = [
     "state",
 ];
 
-#[test]
-fn each_word_is_read_and_written(rt: HostRuntime) -> Result<(), Fail> {
-    for word in REFUSALS {
-        let line = format!(in rt.alloc(); "again {word}")?;
-        assert!(rt; is_written_back(rt.alloc(), line.as_bytes())?, "{word}");
-    }
-    for word in FATES {
-        let line = format!(in rt.alloc(); "take 0 - {word}")?;
-        assert!(rt; is_written_back(rt.alloc(), line.as_bytes())?, "{word}");
+/// Asserts that each of these words, behind the same words, is a line that is read and written back.
+fn assert_words(rt: &impl Abort, alloc: Global, front: &str, words: &[&str]) -> Result<(), Fail> {
+    for word in words {
+        let line = format!(in alloc; "{front} {word}")?;
+        assert!(rt; is_written_back(alloc, line.as_bytes())?, "{word}");
     }
     Ok(())
 }
 
+#[test]
+fn each_word_is_read_and_written(rt: HostRuntime) -> Result<(), Fail> {
+    assert_words(&rt, rt.alloc(), "again", &REFUSALS)?;
+    assert_words(&rt, rt.alloc(), "take 0 -", &FATES)
+}
+
 /// Lines that are no entry, each a little off one that is.
-const NEAR_MISSES: [&str; 80] = [
+static NEAR_MISSES: [&str; 80] = [
     "wait",
     "wait ",
     "wait 01",
@@ -386,7 +277,7 @@ const NEAR_MISSES: [&str; 80] = [
     "call 1 truncated 2",
 ];
 
-const NEAR_RESULTS: [&str; 19] = [
+static NEAR_RESULTS: [&str; 19] = [
     "done",
     "done ",
     "done ok",
@@ -413,15 +304,27 @@ fn is_no_entry(alloc: Global, line: &[u8]) -> Result<bool, AllocError> {
     Ok(read_entry(line, &mut room).is_err())
 }
 
+/// Asserts that none of these lines is an entry.
+fn assert_no_entries(rt: &impl Abort, alloc: Global, lines: &[&str]) -> Result<(), Fail> {
+    for line in lines {
+        assert!(rt; is_no_entry(alloc, line.as_bytes())?, "{line}");
+    }
+    Ok(())
+}
+
+/// Asserts that none of these is the answer of a call.
+fn assert_no_answers(rt: &impl Abort, alloc: Global, answers: &[&str]) -> Result<(), Fail> {
+    for answer in answers {
+        let line = format!(in alloc; "call 1 {answer}")?;
+        assert!(rt; is_no_entry(alloc, line.as_bytes())?, "{line}");
+    }
+    Ok(())
+}
+
 #[test]
 fn near_misses_are_no_entries(rt: HostRuntime) -> Result<(), Fail> {
-    for line in NEAR_MISSES {
-        assert!(rt; is_no_entry(rt.alloc(), line.as_bytes())?, "{line}");
-    }
-    for answer in NEAR_RESULTS {
-        let line = format!(in rt.alloc(); "call 1 {answer}")?;
-        assert!(rt; is_no_entry(rt.alloc(), line.as_bytes())?, "{line}");
-    }
+    assert_no_entries(&rt, rt.alloc(), &NEAR_MISSES)?;
+    assert_no_answers(&rt, rt.alloc(), &NEAR_RESULTS)?;
     let shown = format!(in rt.alloc(); "{NotAnEntry}")?;
     assert!(rt; shown.as_str() == "the line is no entry of a journal");
     Ok(())
@@ -451,18 +354,20 @@ fn is_written_so_far(alloc: Global, failing: u64, room: usize, written: &str) ->
     result == Err(Failed) && sink.written() == written.as_bytes()
 }
 
+/// At which call a write fails, how much room there is, and what is written.
+static FAILURES: [(u64, usize, &str); 5] = [
+    (0, 99, ""),
+    (3, 99, "take 1 68"),
+    (6, 99, "take 1 6869 handed"),
+    (99, 18, "take 1 6869 handed"),
+    (99, 0, ""),
+];
+
 #[test]
 fn a_failed_write_is_reported(rt: HostRuntime) {
-    // failing call, room, bytes written
-    for (failing, room, written) in [
-        (0, 99, ""),
-        (3, 99, "take 1 68"),
-        (6, 99, "take 1 6869 handed"),
-        (99, 18, "take 1 6869 handed"),
-        (99, 0, ""),
-    ] {
+    for (failing, room, written) in &FAILURES {
         assert!(rt;
-            is_written_so_far(rt.alloc(), failing, room, written),
+            is_written_so_far(rt.alloc(), *failing, *room, written),
             "{failing} {room}"
         );
     }
