@@ -5,23 +5,39 @@ ghost use Rattle.door_bell.specs.Shown.{IsRingerOf, IsSleeperOf};
 ghost use Rattle.door_bell.specs.declared.view.Stage.TheVariants.{Awake, Asleep};
 
 use door_bell::{Bell, BellFault, Ringer, Sleeper, asleep_is_rung, may_cross_threads};
+use std::alloc::Global;
 use std::sync::Wait;
-use std::test::Fail;
 use std::thread::{Threads, for_each_mut, join};
 
+/// The fault of a bell that has no such count of ringers.
+fn fault(alloc: Global, count: u32) -> Option<BellFault> {
+    Bell::new(alloc, count).err()
+}
+
+/// How many ringers are made with a bell of so many.
+fn ringers_made(alloc: Global, count: u32) -> Option<usize> {
+    match Bell::new(alloc, count) {
+        Ok((_bell, _sleeper, ringers)) => Some(ringers.len()),
+        Err(_) => None,
+    }
+}
+
 #[test]
-fn counts_other_than_1_to_14_are_refused(rt: HostRuntime) -> Result<(), Fail> {
+fn counts_other_than_1_to_14_are_refused(rt: HostRuntime) {
     may_cross_threads();
     asleep_is_rung();
-    for count in [0, 15, 4294967295] {
-        let made = Bell::new(rt.alloc(), count);
-        assert!(rt; matches!(made, Err(BellFault::Count)), "{count}");
+    for count in &[0, 15, 4294967295] {
+        assert!(rt;
+            matches!(fault(rt.alloc(), *count), Some(BellFault::Count)),
+            "{count}"
+        );
     }
-    for count in [1, 14] {
-        let (_bell, _sleeper, ringers) = Bell::new(rt.alloc(), count)?;
-        assert_eq!(rt; ringers.len(), count as usize);
+    for count in &[1, 14] {
+        assert!(rt;
+            ringers_made(rt.alloc(), *count) == Some(*count as usize),
+            "{count}"
+        );
     }
-    Ok(())
 }
 
 fn ring_once(on: &Bell, mut ringer: Ringer) -> Ringer
@@ -44,29 +60,49 @@ fn sleep_once<R: Wait>(rt: &R, on: &Bell, mut sleeper: Sleeper) -> Sleeper
 
 // After a sleep that a ring from another thread ended, a clearing and an arming: whether the sleeper is asleep then, with or without
 // a ring between the two.
-const SECOND_ARMS: [(bool, bool); 2] = [(false, true), (true, false)];
+static SECOND_ARMS: [(bool, bool); 2] = [(false, true), (true, false)];
+
+/// Whether a sleeper is asleep after a clearing and an arming, with or without a ring between the two.
+fn arms(on: &Bell, mut sleeper: Sleeper, mut ringer: Ringer, rings_between: bool) -> bool
+    requires ringer { IsRingerOf on.now ringer }
+    requires sleeper { IsSleeperOf on.now sleeper }
+    requires awake { sleeper.view.stage ≡ Awake }
+{
+    sleeper.clear(on);
+    if rings_between {
+        ringer.ring(on);
+    }
+    sleeper.arm(on)
+}
+
+/// The same after a sleep that a ring from another thread ended. `None` where there is no memory, or there are news before any
+/// ring.
+fn second_arm<R: Threads + Wait + Sync>(
+    rt: &R,
+    alloc: Global,
+    rings_between: bool,
+) -> Option<bool> {
+    let Ok((bell, mut sleeper, mut ringers)) = Bell::new(alloc, 3) else {
+        return None;
+    };
+    sleeper.clear(&bell);
+    if !sleeper.arm(&bell) {
+        return None;
+    }
+    let ringer = ringers.remove(1);
+    let (ringer, sleeper) = join(
+        rt,
+        || ring_once(&bell, ringer),
+        || sleep_once(rt, &bell, sleeper),
+    );
+    Some(arms(&bell, sleeper, ringer, rings_between))
+}
 
 #[test]
-fn a_ring_from_another_thread_ends_a_sleep(rt: HostRuntime) -> Result<(), Fail> {
-    for (rings_between, arms) in SECOND_ARMS {
-        let (bell, mut sleeper, mut ringers) = Bell::new(rt.alloc(), 3)?;
-        let ringer = ringers.remove(1);
-        sleeper.clear(&bell);
-        if !sleeper.arm(&bell) {
-            panic!(rt; "news before any ring")
-        }
-        let (mut ringer, mut sleeper) = join(
-            &rt,
-            || ring_once(&bell, ringer),
-            || sleep_once(&rt, &bell, sleeper),
-        );
-        sleeper.clear(&bell);
-        if rings_between {
-            ringer.ring(&bell);
-        }
-        assert_eq!(rt; sleeper.arm(&bell), arms);
+fn a_ring_from_another_thread_ends_a_sleep(rt: HostRuntime) {
+    for (rings_between, arms) in &SECOND_ARMS {
+        assert!(rt; second_arm(&rt, rt.alloc(), *rings_between) == Some(*arms));
     }
-    Ok(())
 }
 
 /// Has each ringer ring, on a thread of its own.
@@ -83,20 +119,31 @@ fn ring_all<R: Threads + Sync>(rt: &R, on: &Bell, mut ringers: Vec<Ringer>)
     );
 }
 
-#[test]
-fn fourteen_ringers_ring_one_sleeper_at_once(rt: HostRuntime) -> Result<(), Fail> {
-    let (bell, mut sleeper, ringers) = Bell::new(rt.alloc(), 14)?;
+/// Whether a sleeper has news after a sleep that fourteen rings at once ended, and none after a clearing. `None` where there is no
+/// memory, or there are news before any ring.
+fn is_rung_by_fourteen<R: Threads + Wait + Sync>(rt: &R, alloc: Global) -> Option<bool> {
+    let Ok((bell, mut sleeper, ringers)) = Bell::new(alloc, 14) else {
+        return None;
+    };
     sleeper.clear(&bell);
     if !sleeper.arm(&bell) {
-        panic!(rt; "news before any ring")
+        return None;
     }
     let (_, mut sleeper) = join(
-        &rt,
-        || ring_all(&rt, &bell, ringers),
-        || sleep_once(&rt, &bell, sleeper),
+        rt,
+        ||
+            requires { AllByRecursion (IsRingerOf bell) ringers.items }
+        { ring_all(rt, &bell, ringers) },
+        || sleep_once(rt, &bell, sleeper),
     );
-    assert!(rt; !sleeper.arm(&bell));
+    if sleeper.arm(&bell) {
+        return Some(false);
+    }
     sleeper.clear(&bell);
-    assert!(rt; sleeper.arm(&bell));
-    Ok(())
+    Some(sleeper.arm(&bell))
+}
+
+#[test]
+fn fourteen_ringers_ring_one_sleeper_at_once(rt: HostRuntime) {
+    assert!(rt; is_rung_by_fourteen(&rt, rt.alloc()) == Some(true));
 }
