@@ -7,7 +7,6 @@ use ring_trace::{
     driver_writes, fold_writes, start_image,
 };
 use std::alloc::Global;
-use std::test::Fail;
 
 /// A ring of size 4, queue 1, after one frame of 26 bytes went over and its buffer came back.
 pub static ONE_FRAME: [u8; 118] = [
@@ -60,9 +59,8 @@ fn checks() -> bool {
 }
 
 #[test]
-fn images_are_checked(rt: HostRuntime) -> Result<(), Fail> {
+fn images_are_checked(rt: HostRuntime) {
     assert!(rt; checks());
-    Ok(())
 }
 
 /// The image after these writes, and those.
@@ -85,9 +83,8 @@ fn either_order_makes_it(alloc: Global) -> Option<bool> {
 }
 
 #[test]
-fn the_writes_of_both_sides_make_the_image_in_either_order(rt: HostRuntime) -> Result<(), Fail> {
-    assert!(rt; either_order_makes_it(rt.alloc()).ok_or("memory")?);
-    Ok(())
+fn the_writes_of_both_sides_make_the_image_in_either_order(rt: HostRuntime) {
+    assert!(rt; either_order_makes_it(rt.alloc()) == Some(true));
 }
 
 /// Whether a primed ring is what its driver's writes make, and they are in order.
@@ -104,9 +101,8 @@ fn is_primed(alloc: Global) -> Option<bool> {
 }
 
 #[test]
-fn a_primed_ring_is_what_its_driver_writes(rt: HostRuntime) -> Result<(), Fail> {
-    assert!(rt; is_primed(rt.alloc()).ok_or("memory")?);
-    Ok(())
+fn a_primed_ring_is_what_its_driver_writes(rt: HostRuntime) {
+    assert!(rt; is_primed(rt.alloc()) == Some(true));
 }
 
 #[test]
