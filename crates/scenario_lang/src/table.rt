@@ -120,9 +120,9 @@ const CALLEES: [Callee; 24] = [
 pub fn callee_of(word: &[u8]) -> Option<Callee>
     ensures { result ≡ call_with word.now }
 {
-    for callee in CALLEES {
-        if word == row_of(callee).word {
-            return Some(callee);
+    for callee in &CALLEES {
+        if word == row_of(*callee).word {
+            return Some(*callee);
         }
     }
     None
