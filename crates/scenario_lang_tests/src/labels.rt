@@ -1,195 +1,226 @@
-use crate::reading::{Refusal, assert_refused, is_read_as, is_refused};
+use crate::reading::{assert_cases, is_read_as, is_refused};
 use scenario_lang::LineReason;
-use std::process::Abort;
 use std::test::Fail;
 
 /// Texts with labels, of which one is told or used where it may not.
-static REFUSED_LABELS: [Refusal; 36] = [
-    (
-        b"domain 0 nodes 1 pool 1\ndomain 1 nodes 1 pool 1\n0.0 x = pkt_recv 1\n0.0 wait x 1\n",
-        4,
-        LineReason::Label,
-    ),
-    (
-        b"domain 0 nodes 1 pool 1\ndomain 1 nodes 1 pool 1\n0.0 x = lookup 0:0:1\n1.0 wait x 1\n",
-        4,
-        LineReason::Label,
-    ),
-    (
-        b"domain 0 nodes 1 pool 1\ndomain 1 nodes 1 pool 1\n0.0 x = lookup 0:0:1\n0.0 y = pkt_recv 1\n0.0 wait_any x,y 1\n",
-        5,
-        LineReason::Label,
-    ),
-    (
-        b"domain 0 nodes 1 pool 1\ndomain 1 nodes 1 pool 1\n0.0 x = lookup 0:0:1\n1.0 y = lookup 0:0:1\n0.0 wait_any x,y 1\n",
-        5,
-        LineReason::Label,
-    ),
-    (
-        b"domain 0 nodes 1 pool 1\ndomain 1 nodes 1 pool 1\n0.0 x = lookup 0:0:1\n0.0 wait_any y,x 1\n",
-        4,
-        LineReason::Label,
-    ),
-    (
-        b"domain 0 nodes 1 pool 1\ndomain 1 nodes 1 pool 1\n0.0 x = lookup 0:0:1\n0.0 wait_any x,x,x,x,x,x,x,z 1\n",
-        4,
-        LineReason::Label,
-    ),
-    (
-        b"domain 0 nodes 1 pool 1\ndomain 1 nodes 1 pool 1\n0.0 x = lookup 0:0:1\n0.0 release x\n",
-        4,
-        LineReason::Label,
-    ),
-    (
-        b"domain 0 nodes 1 pool 1\ndomain 1 nodes 1 pool 1\n0.0 x = msg_recv_i 1 9\n0.0 release x\n",
-        4,
-        LineReason::Label,
-    ),
-    (
-        b"domain 0 nodes 1 pool 1\ndomain 1 nodes 1 pool 1\n0.0 x = connect 1 0:0:2 packet\n0.0 release x\n",
-        4,
-        LineReason::Label,
-    ),
-    (
-        b"domain 0 nodes 1 pool 1\ndomain 1 nodes 1 pool 1\n0.0 x = pkt_recv 1\n0.0 test x\n",
-        4,
-        LineReason::Label,
-    ),
-    (
-        b"domain 0 nodes 1 pool 1\ndomain 1 nodes 1 pool 1\n0.0 x = pkt_recv 1\n0.0 cancel x\n",
-        4,
-        LineReason::Label,
-    ),
-    (
-        b"domain 0 nodes 1 pool 1\ndomain 1 nodes 1 pool 1\n0.0 x = pkt_recv 1\n0.0 x = pkt_recv 1\n",
-        4,
-        LineReason::Label,
-    ),
-    (
-        b"domain 0 nodes 1 pool 1\ndomain 1 nodes 1 pool 1\n0.0 x = pkt_recv 1\n0.0 x = pkt_recv_i 1\n",
-        4,
-        LineReason::Label,
-    ),
-    (
-        b"domain 0 nodes 1 pool 1\ndomain 1 nodes 1 pool 1\n0.0 x = pkt_recv_i 1\n0.0 x = pkt_recv 1\n",
-        4,
-        LineReason::Label,
-    ),
-    (
-        b"domain 0 nodes 1 pool 1\ndomain 1 nodes 1 pool 1\n0.0 x = pkt_recv_i 1\n0.0 x = lookup 0:0:1\n",
-        4,
-        LineReason::Label,
-    ),
-    (
-        b"domain 0 nodes 1 pool 1\ndomain 1 nodes 1 pool 1\n0.0 x = lookup 0:0:1\n0.0 x = pkt_recv 1\n",
-        4,
-        LineReason::Label,
-    ),
-    (
-        b"domain 0 nodes 1 pool 1\ndomain 1 nodes 1 pool 1\n0.0 x = pkt_recv 1\n1.0 release x\n",
-        4,
-        LineReason::Label,
-    ),
-    (
-        b"domain 0 nodes 1 pool 1\ndomain 1 nodes 1 pool 1\n0.0 x = pkt_recv_i 1\n1.0 release x\n",
-        4,
-        LineReason::Label,
-    ),
-    (
-        b"domain 0 nodes 1 pool 1\ndomain 1 nodes 1 pool 1\n0.0 x = pkt_recv_i 1\n1.0 test x\n",
-        4,
-        LineReason::Label,
-    ),
-    (
-        b"domain 0 nodes 1 pool 1\ndomain 1 nodes 1 pool 1\n0.0 release x\n0.0 x = pkt_recv 1\n",
-        3,
-        LineReason::Label,
-    ),
-    (
-        b"domain 0 nodes 1 pool 1\ndomain 1 nodes 1 pool 1\n0.0 x = pkt_recv 1\n1.0 x = lookup 0:0:1\n1.0 release x\n",
-        5,
-        LineReason::Label,
-    ),
-    (
-        b"domain 0 nodes 1 pool 1\ndomain 1 nodes 1 pool 1\n0.0 x = pkt_recv 1\n1.0 x = lookup 0:0:1\n0.0 test x\n",
-        5,
-        LineReason::Label,
-    ),
-    (
-        b"domain 0 nodes 1 pool 1\ndomain 1 nodes 1 pool 1\n0.0 x = pkt_recv 1\n0.0 release x\n0.0 release x\n0.0 release y\n",
-        6,
-        LineReason::Label,
-    ),
-    (
-        b"domain 0 nodes 1 pool 1\n0.0 x = lookup 0:0:1\n0.0 x = lookup 0:0:1\n",
-        3,
-        LineReason::Label,
-    ),
-    (
-        b"domain 0 nodes 1 pool 1\n0.0 x = lookup 0:0:1\n0.1 x = msg_recv_i 1 1\n",
-        3,
-        LineReason::Label,
-    ),
-    (
-        b"domain 0 nodes 1 pool 1\n0.0 test x\n0.0 x = lookup 0:0:1\n",
-        2,
-        LineReason::Label,
-    ),
-    (
-        b"domain 0 nodes 1 pool 1\n0.0 x = lookup 0:0:1\n0.0 test y\n",
-        3,
-        LineReason::Label,
-    ),
-    (
-        b"domain 0 nodes 1 pool 1\ndomain 1 nodes 1 pool 1\n0.0 x = lookup 0:0:1\n1.0 test x\n",
-        4,
-        LineReason::Label,
-    ),
-    (
-        b"domain 0 nodes 1 pool 1\n0.0 x = lookup 0:0:1\n0.0 x = test x\n",
-        3,
-        LineReason::Label,
-    ),
-    (
-        b"domain 0 nodes 1 pool 1\n0.0 x = connect 1 0:0:2 packet\n0.0 x = connect 1 0:0:2 packet\n",
-        3,
-        LineReason::Label,
-    ),
-    (
-        b"domain 0 nodes 1 pool 1\n0.0 x = lookup 0:0:1\n0.0 x = connect 1 0:0:2 scalar\n",
-        3,
-        LineReason::Label,
-    ),
-    (
-        b"domain 0 nodes 1 pool 1\n0.0 test x\n0.0 x = connect 1 0:0:2 scalar\n",
-        2,
-        LineReason::Label,
-    ),
-    (
-        b"domain 0 nodes 1 pool 1\ndomain 1 nodes 1 pool 1\n0.0 x = connect 1 1:0:2 scalar\n1.0 cancel x\n",
-        4,
-        LineReason::Label,
-    ),
-    (
-        b"domain 0 nodes 1 pool 1\n0.0 x = connect 1 0:0:2 scalar\n0.0 open_send 1 scalar\n0.0 cancel y\n",
-        4,
-        LineReason::Label,
-    ),
-    (
-        b"domain 0 nodes 1 pool 1\n0.0 test x\n0.0 create 65536\n",
-        2,
-        LineReason::Label,
-    ),
-    (
-        b"domain 0 nodes 1 pool 1\n0.0 create 1\n\x00\n0.0 test x\n",
-        3,
-        LineReason::Byte,
-    ),
-];
+static REFUSED_LABELS: &str = "\
+4 label
+domain 0 nodes 1 pool 1
+domain 1 nodes 1 pool 1
+0.0 x = pkt_recv 1
+0.0 wait x 1
+--
+4 label
+domain 0 nodes 1 pool 1
+domain 1 nodes 1 pool 1
+0.0 x = lookup 0:0:1
+1.0 wait x 1
+--
+5 label
+domain 0 nodes 1 pool 1
+domain 1 nodes 1 pool 1
+0.0 x = lookup 0:0:1
+0.0 y = pkt_recv 1
+0.0 wait_any x,y 1
+--
+5 label
+domain 0 nodes 1 pool 1
+domain 1 nodes 1 pool 1
+0.0 x = lookup 0:0:1
+1.0 y = lookup 0:0:1
+0.0 wait_any x,y 1
+--
+4 label
+domain 0 nodes 1 pool 1
+domain 1 nodes 1 pool 1
+0.0 x = lookup 0:0:1
+0.0 wait_any y,x 1
+--
+4 label
+domain 0 nodes 1 pool 1
+domain 1 nodes 1 pool 1
+0.0 x = lookup 0:0:1
+0.0 wait_any x,x,x,x,x,x,x,z 1
+--
+4 label
+domain 0 nodes 1 pool 1
+domain 1 nodes 1 pool 1
+0.0 x = lookup 0:0:1
+0.0 release x
+--
+4 label
+domain 0 nodes 1 pool 1
+domain 1 nodes 1 pool 1
+0.0 x = msg_recv_i 1 9
+0.0 release x
+--
+4 label
+domain 0 nodes 1 pool 1
+domain 1 nodes 1 pool 1
+0.0 x = connect 1 0:0:2 packet
+0.0 release x
+--
+4 label
+domain 0 nodes 1 pool 1
+domain 1 nodes 1 pool 1
+0.0 x = pkt_recv 1
+0.0 test x
+--
+4 label
+domain 0 nodes 1 pool 1
+domain 1 nodes 1 pool 1
+0.0 x = pkt_recv 1
+0.0 cancel x
+--
+4 label
+domain 0 nodes 1 pool 1
+domain 1 nodes 1 pool 1
+0.0 x = pkt_recv 1
+0.0 x = pkt_recv 1
+--
+4 label
+domain 0 nodes 1 pool 1
+domain 1 nodes 1 pool 1
+0.0 x = pkt_recv 1
+0.0 x = pkt_recv_i 1
+--
+4 label
+domain 0 nodes 1 pool 1
+domain 1 nodes 1 pool 1
+0.0 x = pkt_recv_i 1
+0.0 x = pkt_recv 1
+--
+4 label
+domain 0 nodes 1 pool 1
+domain 1 nodes 1 pool 1
+0.0 x = pkt_recv_i 1
+0.0 x = lookup 0:0:1
+--
+4 label
+domain 0 nodes 1 pool 1
+domain 1 nodes 1 pool 1
+0.0 x = lookup 0:0:1
+0.0 x = pkt_recv 1
+--
+4 label
+domain 0 nodes 1 pool 1
+domain 1 nodes 1 pool 1
+0.0 x = pkt_recv 1
+1.0 release x
+--
+4 label
+domain 0 nodes 1 pool 1
+domain 1 nodes 1 pool 1
+0.0 x = pkt_recv_i 1
+1.0 release x
+--
+4 label
+domain 0 nodes 1 pool 1
+domain 1 nodes 1 pool 1
+0.0 x = pkt_recv_i 1
+1.0 test x
+--
+3 label
+domain 0 nodes 1 pool 1
+domain 1 nodes 1 pool 1
+0.0 release x
+0.0 x = pkt_recv 1
+--
+5 label
+domain 0 nodes 1 pool 1
+domain 1 nodes 1 pool 1
+0.0 x = pkt_recv 1
+1.0 x = lookup 0:0:1
+1.0 release x
+--
+5 label
+domain 0 nodes 1 pool 1
+domain 1 nodes 1 pool 1
+0.0 x = pkt_recv 1
+1.0 x = lookup 0:0:1
+0.0 test x
+--
+6 label
+domain 0 nodes 1 pool 1
+domain 1 nodes 1 pool 1
+0.0 x = pkt_recv 1
+0.0 release x
+0.0 release x
+0.0 release y
+--
+3 label
+domain 0 nodes 1 pool 1
+0.0 x = lookup 0:0:1
+0.0 x = lookup 0:0:1
+--
+3 label
+domain 0 nodes 1 pool 1
+0.0 x = lookup 0:0:1
+0.1 x = msg_recv_i 1 1
+--
+2 label
+domain 0 nodes 1 pool 1
+0.0 test x
+0.0 x = lookup 0:0:1
+--
+3 label
+domain 0 nodes 1 pool 1
+0.0 x = lookup 0:0:1
+0.0 test y
+--
+4 label
+domain 0 nodes 1 pool 1
+domain 1 nodes 1 pool 1
+0.0 x = lookup 0:0:1
+1.0 test x
+--
+3 label
+domain 0 nodes 1 pool 1
+0.0 x = lookup 0:0:1
+0.0 x = test x
+--
+3 label
+domain 0 nodes 1 pool 1
+0.0 x = connect 1 0:0:2 packet
+0.0 x = connect 1 0:0:2 packet
+--
+3 label
+domain 0 nodes 1 pool 1
+0.0 x = lookup 0:0:1
+0.0 x = connect 1 0:0:2 scalar
+--
+2 label
+domain 0 nodes 1 pool 1
+0.0 test x
+0.0 x = connect 1 0:0:2 scalar
+--
+4 label
+domain 0 nodes 1 pool 1
+domain 1 nodes 1 pool 1
+0.0 x = connect 1 1:0:2 scalar
+1.0 cancel x
+--
+4 label
+domain 0 nodes 1 pool 1
+0.0 x = connect 1 0:0:2 scalar
+0.0 open_send 1 scalar
+0.0 cancel y
+--
+2 label
+domain 0 nodes 1 pool 1
+0.0 test x
+0.0 create 65536
+--
+3 byte
+domain 0 nodes 1 pool 1
+0.0 create 1
+\0
+0.0 test x
+";
 
 #[test]
 fn labels_are_refused_with_their_first_reason(rt: HostRuntime) {
-    assert_refused(&rt, rt.alloc(), &REFUSED_LABELS);
+    assert_cases(&rt, rt.alloc(), REFUSED_LABELS);
 }
 
 #[test]
