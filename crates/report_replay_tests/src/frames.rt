@@ -7,13 +7,13 @@ use std::process::Abort;
 use std::test::Fail;
 
 /// An announcement by domain 1 of its endpoint 1:0:7, whose address is 1030.
-static ANNOUNCED: [u8; 56] = [
+const ANNOUNCED: &[u8] = &[
     6, 4, 0, 0, 53, 0, 0, 0, 0, 0, 0, 0, 40, 0, 0, 0, 109, 99, 97, 112, 105, 58, 49, 58, 48, 58,
     55, 0, 0, 0, 0, 0, 0, 0, 0, 0, 0, 0, 0, 0, 0, 0, 0, 0, 0, 0, 0, 0, 6, 4, 0, 0, 0, 0, 0, 0,
 ];
 
 /// A message of two bytes from address 1030 to address 1024.
-static MESSAGE: [u8; 26] = [
+const MESSAGE: &[u8] = &[
     6, 4, 0, 0, 0, 4, 0, 0, 0, 0, 0, 0, 10, 0, 0, 0, 0x4d, 1, 1, 2, 0, 0, 0, 0, 0xab, 0xcd,
 ];
 
@@ -39,29 +39,51 @@ fn opened(alloc: Global) -> Result<State, NoMemory> {
     State::open(alloc, 0, 1, &[(0, 2), (1, 4)])
 }
 
+/// Whether looks show what the lane from domain 1 allows, and no more.
+fn are_cut(state: &mut State) -> bool {
+    let mut as_due = state.free_to(1) == 4;
+    as_due &= state.look_back(1, 9) == 0;
+    as_due &= state.look_ahead(1, 3) == 3;
+    as_due &= state.look_ahead(1, 2) == 3;
+    as_due &= state.look_ahead(1, 9) == 4;
+    as_due &= state.look_ahead(7, 9) == 0;
+    as_due & (state.held_from(1) == 0)
+}
+
 #[test]
 fn a_look_is_cut_to_what_the_lane_allows(rt: HostRuntime) -> Result<(), Fail> {
     let mut state = opened(rt.alloc())?;
-    assert!(rt; state.free_to(1) == 4);
-    assert!(rt; state.look_back(1, 9) == 0);
-    assert!(rt; state.look_ahead(1, 3) == 3);
-    assert!(rt; state.look_ahead(1, 2) == 3);
-    assert!(rt; state.look_ahead(1, 9) == 4);
-    assert!(rt; state.look_ahead(7, 9) == 0);
-    assert!(rt; state.held_from(1) == 0);
+    assert!(rt; are_cut(&mut state));
+    Ok(())
+}
+
+/// A domain, a frame that comes from it, and its word.
+type Row = (u8, &'static [u8], Fate);
+
+static ROWS: [Row; 4] = [
+    (1, &[0], Fate::FrameShort),
+    (1, MESSAGE, Fate::NoEndpoint),
+    (1, ANNOUNCED, Fate::Acted),
+    (0, ANNOUNCED, Fate::ForeignName),
+];
+
+fn assert_words(
+    rt: &impl Abort,
+    alloc: Global,
+    state: &mut State,
+    rows: &[Row],
+) -> Result<(), Fail> {
+    for (i, (peer, frame, word)) in rows.iter().enumerate() {
+        assert!(rt; state.take(alloc, *peer, None, frame)? == *word, "row {i}");
+    }
     Ok(())
 }
 
 #[test]
 fn frames_have_the_words_that_the_state_has_for_them(rt: HostRuntime) -> Result<(), Fail> {
-    let alloc = rt.alloc();
-    let mut state = opened(alloc)?;
+    let mut state = opened(rt.alloc())?;
     assert!(rt; state.look_ahead(1, 4) == 4);
-    assert!(rt; state.take(alloc, 1, None, &[0])? == Fate::FrameShort);
-    assert!(rt; state.take(alloc, 1, None, &MESSAGE)? == Fate::NoEndpoint);
-    assert!(rt; state.take(alloc, 1, None, &ANNOUNCED)? == Fate::Acted);
-    assert!(rt; state.take(alloc, 0, None, &ANNOUNCED)? == Fate::ForeignName);
-    Ok(())
+    assert_words(&rt, rt.alloc(), &mut state, &ROWS)
 }
 
 #[test]

@@ -3,6 +3,7 @@
 ghost use Rattle.std.specs.Prelude.{IfOk};
 ghost use Rattle.board_model.proofs.StateEnds.{Ends};
 
+use arrayvec::ArrayVec;
 use mc_base::{Bits, Fate, Kind, NoMemory, Side};
 use report_replay::{DomainCall, FrameNames, State};
 use std::alloc::Global;
@@ -10,33 +11,105 @@ use std::process::Abort;
 use std::test::Fail;
 
 /// Messages of one byte from address 1030 of domain 1 to address 1024, of priorities 2 and 1.
-static LATE: [u8; 25] = [
+const LATE: &[u8] = &[
     6, 4, 0, 0, 0, 4, 0, 0, 0, 0, 0, 0, 9, 0, 0, 0, 0x4d, 1, 1, 2, 0, 0, 0, 0, 0xab,
 ];
 
-static SOON: [u8; 25] = [
+const SOON: &[u8] = &[
     6, 4, 0, 0, 0, 4, 0, 0, 0, 0, 0, 0, 9, 0, 0, 0, 0x4d, 1, 1, 1, 0, 0, 0, 0, 0xcd,
 ];
 
 /// Connects from address 1030 of domain 1 to address 1024, on its channel 1, and a packet and a scalar on it.
-static CONNECT_PACKETS: [u8; 24] = [
+const CONNECT_PACKETS: &[u8] = &[
     6, 4, 0, 0, 0, 4, 0, 0, 0, 0, 0, 0, 8, 0, 0, 0, 0x4d, 1, 2, 0, 1, 0, 0, 0,
 ];
 
-static CONNECT_SCALARS: [u8; 24] = [
+const CONNECT_SCALARS: &[u8] = &[
     6, 4, 0, 0, 0, 4, 0, 0, 0, 0, 0, 0, 8, 0, 0, 0, 0x4d, 1, 2, 1, 1, 0, 0, 0,
 ];
 
-static PACKET: [u8; 25] = [
+const PACKET: &[u8] = &[
     6, 4, 0, 0, 0, 4, 0, 0, 0, 0, 0, 0, 9, 0, 0, 0, 0x4d, 1, 7, 0, 1, 0, 0, 0, 0xab,
 ];
 
-static SCALAR: [u8; 25] = [
+const SCALAR: &[u8] = &[
     6, 4, 0, 0, 0, 4, 0, 0, 0, 0, 0, 0, 9, 0, 0, 0, 0x4d, 1, 8, 1, 1, 0, 0, 0, 0xab,
 ];
 
 /// Calls at port 7 of node 0, which has address 1024.
 const PORT: u16 = 7;
+
+/// A call. A request and a lent packet are named by their places.
+#[derive(Clone, Copy)]
+enum Call {
+    Delete,
+    Receive,
+    Request,
+    /// Opens the receiver's end of a channel.
+    Open(Kind),
+    RequestPacket,
+    Release(usize),
+    ReceiveByte,
+    /// Closes the receiver's end of a channel.
+    Close,
+    Test(usize),
+    /// Waits for one request.
+    Wait(usize),
+}
+
+/// What happens in a domain, or what is asked of it.
+#[derive(Clone, Copy)]
+enum Event {
+    /// A call is made, and not refused.
+    Made(Call),
+    /// A frame of this name comes from domain 1, and has this word.
+    Came(u32, &'static [u8], Fate),
+    /// The buffers of these frames of a domain came back so far.
+    Back(u8, &'static [u32]),
+}
+
+use Call::{
+    Close, Delete, Open, Receive, ReceiveByte, Release, Request, RequestPacket, Test, Wait,
+};
+use Event::{Back, Came, Made};
+
+fn call_of(call: Call) -> DomainCall<'static> {
+    match call {
+        Delete => DomainCall::Delete { port: PORT },
+        Receive => DomainCall::Receive { port: PORT, max: 9 },
+        Request => DomainCall::Request { port: PORT, max: 9 },
+        Open(kind) => DomainCall::Open {
+            port: PORT,
+            side: Side::Receiver,
+            kind,
+        },
+        RequestPacket => DomainCall::RequestPacket { port: PORT },
+        Release(place) => DomainCall::Release {
+            packet: Some(place),
+        },
+        ReceiveByte => DomainCall::ReceiveScalar {
+            port: PORT,
+            bits: Bits::B8,
+        },
+        Close => DomainCall::Close {
+            port: PORT,
+            side: Side::Receiver,
+        },
+        Test(place) => DomainCall::Test {
+            request: Some(place),
+        },
+        Wait(place) => wait_for(place),
+    }
+}
+
+fn wait_for(place: usize) -> DomainCall<'static> {
+    let mut requests = ArrayVec::new();
+    requests.push(Some(place));
+    DomainCall::Wait {
+        requests,
+        says_place: false,
+    }
+}
 
 /// Makes a call that is not refused, and notes what it gives back.
 fn make(
@@ -73,117 +146,120 @@ fn opened(alloc: Global, names: &mut FrameNames) -> Result<State, NoMemory>
     Ok(state)
 }
 
-#[test]
-fn a_delete_gives_back_what_is_queued_in_order(rt: HostRuntime) -> Result<(), Fail> {
-    let alloc = rt.alloc();
-    let mut names = FrameNames::new(alloc);
-    let mut state = opened(alloc, &mut names)?;
-    assert!(rt; take(&mut state, alloc, 0, &LATE)? == Fate::Queued);
-    assert!(rt; take(&mut state, alloc, 1, &SOON)? == Fate::Queued);
-    assert!(rt;
-        make(
-            &mut state,
-            alloc,
-            &DomainCall::Delete { port: PORT },
-            &mut names
-        )?
-    );
-    assert!(rt; names.from_peer(1) == [0, 1].as_slice());
-    assert!(rt; names.from_peer(0).is_empty());
-    assert!(rt; names.from_peer(8).is_empty());
+/// Whether an event comes as it must.
+fn happens(
+    state: &mut State,
+    alloc: Global,
+    names: &mut FrameNames,
+    event: Event,
+) -> Result<bool, NoMemory>
+    requires { Ends state.old }
+    ensures { IfOk result (λ as_due. Ends state.new) }
+{
+    match event {
+        Made(call) => make(state, alloc, &call_of(call), names),
+        Came(name, frame, word) => Ok(take(state, alloc, name, frame)? == word),
+        Back(peer, due) => Ok(names.from_peer(peer) == due),
+    }
+}
+
+/// Asserts that each event comes as it must.
+fn assert_events(
+    rt: &impl Abort,
+    state: &mut State,
+    alloc: Global,
+    names: &mut FrameNames,
+    events: &[Event],
+) -> Result<(), Fail>
+    requires { Ends state.old }
+{
+    for (i, event) in events.iter().enumerate() {
+        assert!(rt; happens(state, alloc, names, *event)?, "event {i}");
+    }
     Ok(())
 }
+
+/// The same in a new domain.
+fn assert_all(rt: &impl Abort, alloc: Global, events: &[Event]) -> Result<(), Fail> {
+    let mut names = FrameNames::new(alloc);
+    let mut state = opened(alloc, &mut names)?;
+    assert_events(rt, &mut state, alloc, &mut names, events)
+}
+
+static DELETED: [Event; 6] = [
+    Came(0, LATE, Fate::Queued),
+    Came(1, SOON, Fate::Queued),
+    Made(Delete),
+    Back(1, &[0, 1]),
+    Back(0, &[]),
+    Back(8, &[]),
+];
+
+#[test]
+fn a_delete_gives_back_what_is_queued_in_order(rt: HostRuntime) -> Result<(), Fail> {
+    assert_all(&rt, rt.alloc(), &DELETED)
+}
+
+static RECEIVED: [Event; 5] = [
+    Came(0, LATE, Fate::Queued),
+    Came(1, SOON, Fate::Queued),
+    Made(Receive),
+    Made(Receive),
+    Back(1, &[1, 0]),
+];
 
 #[test]
 fn a_receive_gives_back_the_best_message(rt: HostRuntime) -> Result<(), Fail> {
-    let alloc = rt.alloc();
-    let mut names = FrameNames::new(alloc);
-    let mut state = opened(alloc, &mut names)?;
-    assert!(rt; take(&mut state, alloc, 0, &LATE)? == Fate::Queued);
-    assert!(rt; take(&mut state, alloc, 1, &SOON)? == Fate::Queued);
-    let receive = DomainCall::Receive { port: PORT, max: 9 };
-    assert!(rt; make(&mut state, alloc, &receive, &mut names)?);
-    assert!(rt; make(&mut state, alloc, &receive, &mut names)?);
-    assert!(rt; names.from_peer(1) == [1, 0].as_slice());
-    Ok(())
+    assert_all(&rt, rt.alloc(), &RECEIVED)
 }
+
+static REQUESTED: [Event; 8] = [
+    Made(Request),
+    Made(Request),
+    Came(0, LATE, Fate::Handed),
+    Came(1, SOON, Fate::Handed),
+    Back(1, &[]),
+    Made(Test(1)),
+    Made(Wait(0)),
+    Back(1, &[1, 0]),
+];
 
 #[test]
 fn a_message_of_a_request_is_given_back_when_it_is_told_of(rt: HostRuntime) -> Result<(), Fail> {
-    let alloc = rt.alloc();
-    let mut names = FrameNames::new(alloc);
-    let mut state = opened(alloc, &mut names)?;
-    let request = DomainCall::Request { port: PORT, max: 9 };
-    assert!(rt; make(&mut state, alloc, &request, &mut names)?);
-    assert!(rt; make(&mut state, alloc, &request, &mut names)?);
-    assert!(rt; take(&mut state, alloc, 0, &LATE)? == Fate::Handed);
-    assert!(rt; take(&mut state, alloc, 1, &SOON)? == Fate::Handed);
-    assert!(rt; names.from_peer(1).is_empty());
-    let second = DomainCall::Test { request: Some(1) };
-    assert!(rt; make(&mut state, alloc, &second, &mut names)?);
-    let mut requests = arrayvec::ArrayVec::new();
-    requests.push(Some(0));
-    let wait = DomainCall::Wait {
-        requests,
-        says_place: false,
-    };
-    assert!(rt; make(&mut state, alloc, &wait, &mut names)?);
-    assert!(rt; names.from_peer(1) == [1, 0].as_slice());
-    Ok(())
+    assert_all(&rt, rt.alloc(), &REQUESTED)
 }
+
+static PACKET_RELEASED: [Event; 8] = [
+    Came(0, CONNECT_PACKETS, Fate::Owed),
+    Made(Open(Kind::Packet)),
+    Made(RequestPacket),
+    Came(1, PACKET, Fate::Handed),
+    Made(Test(0)),
+    Back(1, &[]),
+    Made(Release(0)),
+    Back(1, &[1]),
+];
 
 #[test]
 fn a_packet_is_given_back_when_it_is_released(rt: HostRuntime) -> Result<(), Fail> {
-    let alloc = rt.alloc();
-    let mut names = FrameNames::new(alloc);
-    let mut state = opened(alloc, &mut names)?;
-    assert!(rt; take(&mut state, alloc, 0, &CONNECT_PACKETS)? == Fate::Owed);
-    let open = DomainCall::Open {
-        port: PORT,
-        side: Side::Receiver,
-        kind: Kind::Packet,
-    };
-    assert!(rt; make(&mut state, alloc, &open, &mut names)?);
-    let request = DomainCall::RequestPacket { port: PORT };
-    assert!(rt; make(&mut state, alloc, &request, &mut names)?);
-    assert!(rt; take(&mut state, alloc, 1, &PACKET)? == Fate::Handed);
-    let test = DomainCall::Test { request: Some(0) };
-    assert!(rt; make(&mut state, alloc, &test, &mut names)?);
-    assert!(rt; names.from_peer(1).is_empty());
-    let release = DomainCall::Release { packet: Some(0) };
-    assert!(rt; make(&mut state, alloc, &release, &mut names)?);
-    assert!(rt; names.from_peer(1) == [1].as_slice());
-    Ok(())
+    assert_all(&rt, rt.alloc(), &PACKET_RELEASED)
 }
+
+static SCALARS_RECEIVED: [Event; 9] = [
+    Came(0, CONNECT_SCALARS, Fate::Owed),
+    Made(Open(Kind::Scalar)),
+    Came(1, SCALAR, Fate::Queued),
+    Came(2, SCALAR, Fate::Queued),
+    Came(3, SCALAR, Fate::Queued),
+    Made(ReceiveByte),
+    Back(1, &[1]),
+    Made(Close),
+    Back(1, &[1, 2, 3]),
+];
 
 #[test]
 fn scalars_are_given_back_as_they_are_received_and_by_the_close(
     rt: HostRuntime,
 ) -> Result<(), Fail> {
-    let alloc = rt.alloc();
-    let mut names = FrameNames::new(alloc);
-    let mut state = opened(alloc, &mut names)?;
-    assert!(rt; take(&mut state, alloc, 0, &CONNECT_SCALARS)? == Fate::Owed);
-    let open = DomainCall::Open {
-        port: PORT,
-        side: Side::Receiver,
-        kind: Kind::Scalar,
-    };
-    assert!(rt; make(&mut state, alloc, &open, &mut names)?);
-    assert!(rt; take(&mut state, alloc, 1, &SCALAR)? == Fate::Queued);
-    assert!(rt; take(&mut state, alloc, 2, &SCALAR)? == Fate::Queued);
-    assert!(rt; take(&mut state, alloc, 3, &SCALAR)? == Fate::Queued);
-    let receive = DomainCall::ReceiveScalar {
-        port: PORT,
-        bits: Bits::B8,
-    };
-    assert!(rt; make(&mut state, alloc, &receive, &mut names)?);
-    assert!(rt; names.from_peer(1) == [1].as_slice());
-    let close = DomainCall::Close {
-        port: PORT,
-        side: Side::Receiver,
-    };
-    assert!(rt; make(&mut state, alloc, &close, &mut names)?);
-    assert!(rt; names.from_peer(1) == [1, 2, 3].as_slice());
-    Ok(())
+    assert_all(&rt, rt.alloc(), &SCALARS_RECEIVED)
 }
