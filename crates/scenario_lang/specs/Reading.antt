@@ -10,6 +10,7 @@ use Rattle.board_model.specs.declared.scenario.DomainLine.{DomainLine}
 use Rattle.board_model.specs.declared.scenario.Call.{Call}
 use Rattle.board_model.specs.declared.scenario.CallLine.{CallLine}
 use Rattle.board_model.specs.declared.form.ArgumentKind.{ArgumentKind}
+use Rattle.board_model.specs.declared.form.ArgumentKind.TheVariants as kind
 use Rattle.board_model.specs.declared.form.Callee.{Callee}
 use Rattle.board_model.specs.declared.form.Callee.TheVariants as callee
 use Rattle.board_model.specs.declared.reason.LineReason.{LineReason}
@@ -175,6 +176,34 @@ call_in callee.WaitAny words = call_by callee.WaitAny words
 call_in callee.Cancel words = call_by callee.Cancel words
 call_in callee.Raw words = call_by callee.Raw words
 call_in callee.Turn words = call_by callee.Turn words
+
+-- the call that the words behind its port make, where its first argument is one
+abbrev pub behind_port : (kinds : List ArgumentKind) → Makes kinds → ℕ → List (List ℕ) → Result Call LineReason
+behind_port (kind.Port ∷ kinds) makes port words = call_from kinds 0 words (makes port)
+behind_port kinds makes port words = Err Form
+
+abbrev pub call_behind : Callee → ℕ → List (List ℕ) → Result Call LineReason
+call_behind c port words = behind_port (form c).arguments (form c).makes port words
+
+-- the same for each call that is made at a port
+abbrev pub call_at_port : Callee → ℕ → List (List ℕ) → Result Call LineReason
+call_at_port callee.Create port words = call_behind callee.Create port words
+call_at_port callee.Delete port words = call_behind callee.Delete port words
+call_at_port callee.MsgSend port words = call_behind callee.MsgSend port words
+call_at_port callee.MsgRecv port words = call_behind callee.MsgRecv port words
+call_at_port callee.MsgRecvI port words = call_behind callee.MsgRecvI port words
+call_at_port callee.MsgAvailable port words = call_behind callee.MsgAvailable port words
+call_at_port callee.Connect port words = call_behind callee.Connect port words
+call_at_port callee.OpenSend port words = call_behind callee.OpenSend port words
+call_at_port callee.OpenRecv port words = call_behind callee.OpenRecv port words
+call_at_port callee.PktSend port words = call_behind callee.PktSend port words
+call_at_port callee.PktRecv port words = call_behind callee.PktRecv port words
+call_at_port callee.PktRecvI port words = call_behind callee.PktRecvI port words
+call_at_port callee.SclSend port words = call_behind callee.SclSend port words
+call_at_port callee.SclRecv port words = call_behind callee.SclRecv port words
+call_at_port callee.CloseSend port words = call_behind callee.CloseSend port words
+call_at_port callee.CloseRecv port words = call_behind callee.CloseRecv port words
+call_at_port c port words = Err Form
 
 abbrev pub if_right : CallParts → Result CallParts LineReason
 if_right c = if fits c then Ok c else Err Form

@@ -3,7 +3,7 @@
 ghost use Rattle.std.specs.Prelude.{◌≡◌, ◌*◌};
 ghost use Rattle.mc_base.specs.Letter.{bytes_of_bits};
 ghost use Rattle.board_model.specs.declared.form.ArgumentKind.TheVariants as kind;
-ghost use Rattle.scenario_lang.specs.Reading.{Answers, Reads, seen, next_word, name_at, value_in, argument_in, call_in};
+ghost use Rattle.scenario_lang.specs.Reading.{Answers, Reads, seen, next_word, name_at, value_in, argument_in, call_in, call_at_port};
 
 use crate::fault::LineFault;
 use crate::groups::label_group;
@@ -232,73 +232,11 @@ pub fn call(alloc: Global, callee: Callee, words: &[&[u8]]) -> Result<Call, Line
 {
     let mut arguments = Arguments::new(words);
     match callee {
-        Callee::Create => Ok(Call::Create {
-            port: arguments.port()?,
-        }),
-        Callee::Delete => Ok(Call::Delete {
-            port: arguments.port()?,
-        }),
         Callee::Lookup => Ok(Call::Lookup {
             name: arguments.name()?,
         }),
-        Callee::MsgSend => Ok(Call::MsgSend {
-            port: arguments.port()?,
-            to: arguments.name()?,
-            priority: arguments.priority()?,
-            bytes: Seq::new(arguments.content(alloc)?),
-        }),
-        Callee::MsgRecv => Ok(Call::MsgRecv {
-            port: arguments.port()?,
-            max: arguments.maximum()?,
-        }),
-        Callee::MsgRecvI => Ok(Call::MsgRecvI {
-            port: arguments.port()?,
-            max: arguments.maximum()?,
-        }),
-        Callee::MsgAvailable => Ok(Call::MsgAvailable {
-            port: arguments.port()?,
-        }),
-        Callee::Connect => Ok(Call::Connect {
-            port: arguments.port()?,
-            to: arguments.name()?,
-            kind: arguments.channel_kind()?,
-        }),
-        Callee::OpenSend => Ok(Call::OpenSend {
-            port: arguments.port()?,
-            kind: arguments.channel_kind()?,
-        }),
-        Callee::OpenRecv => Ok(Call::OpenRecv {
-            port: arguments.port()?,
-            kind: arguments.channel_kind()?,
-        }),
-        Callee::PktSend => Ok(Call::PktSend {
-            port: arguments.port()?,
-            bytes: Seq::new(arguments.content(alloc)?),
-        }),
-        Callee::PktRecv => Ok(Call::PktRecv {
-            port: arguments.port()?,
-        }),
-        Callee::PktRecvI => Ok(Call::PktRecvI {
-            port: arguments.port()?,
-        }),
         Callee::Release => Ok(Call::Release {
             label: arguments.packet_label()?,
-        }),
-        Callee::SclSend => {
-            let port = arguments.port()?;
-            let bits = arguments.bits()?;
-            let value = arguments.value(bits)?;
-            Ok(Call::SclSend { port, bits, value })
-        }
-        Callee::SclRecv => Ok(Call::SclRecv {
-            port: arguments.port()?,
-            bits: arguments.bits()?,
-        }),
-        Callee::CloseSend => Ok(Call::CloseSend {
-            port: arguments.port()?,
-        }),
-        Callee::CloseRecv => Ok(Call::CloseRecv {
-            port: arguments.port()?,
         }),
         Callee::Test => Ok(Call::Test {
             label: arguments.request_label()?,
@@ -319,5 +257,85 @@ pub fn call(alloc: Global, callee: Callee, words: &[&[u8]]) -> Result<Call, Line
             bytes: Seq::new(arguments.raw_frame(alloc)?),
         }),
         Callee::Turn => Ok(Call::Turn),
+        Callee::Create
+        | Callee::Delete
+        | Callee::MsgSend
+        | Callee::MsgRecv
+        | Callee::MsgRecvI
+        | Callee::MsgAvailable
+        | Callee::Connect
+        | Callee::OpenSend
+        | Callee::OpenRecv
+        | Callee::PktSend
+        | Callee::PktRecv
+        | Callee::PktRecvI
+        | Callee::SclSend
+        | Callee::SclRecv
+        | Callee::CloseSend
+        | Callee::CloseRecv => {
+            let port = arguments.port()?;
+            call_at(alloc, port, callee, &mut arguments)
+        }
+    }
+}
+
+/// Reads the other arguments of a call that is made at a port.
+fn call_at(
+    alloc: Global,
+    port: u16,
+    callee: Callee,
+    arguments: &mut Arguments<'_, '_>,
+) -> Result<Call, LineFault>
+    ensures { Answers (λ call. call) result (call_at_port callee port (seen arguments.old.rest.now)) }
+{
+    match callee {
+        Callee::Create => Ok(Call::Create { port }),
+        Callee::Delete => Ok(Call::Delete { port }),
+        Callee::MsgSend => Ok(Call::MsgSend {
+            port,
+            to: arguments.name()?,
+            priority: arguments.priority()?,
+            bytes: Seq::new(arguments.content(alloc)?),
+        }),
+        Callee::MsgRecv => Ok(Call::MsgRecv {
+            port,
+            max: arguments.maximum()?,
+        }),
+        Callee::MsgRecvI => Ok(Call::MsgRecvI {
+            port,
+            max: arguments.maximum()?,
+        }),
+        Callee::MsgAvailable => Ok(Call::MsgAvailable { port }),
+        Callee::Connect => Ok(Call::Connect {
+            port,
+            to: arguments.name()?,
+            kind: arguments.channel_kind()?,
+        }),
+        Callee::OpenSend => Ok(Call::OpenSend {
+            port,
+            kind: arguments.channel_kind()?,
+        }),
+        Callee::OpenRecv => Ok(Call::OpenRecv {
+            port,
+            kind: arguments.channel_kind()?,
+        }),
+        Callee::PktSend => Ok(Call::PktSend {
+            port,
+            bytes: Seq::new(arguments.content(alloc)?),
+        }),
+        Callee::PktRecv => Ok(Call::PktRecv { port }),
+        Callee::PktRecvI => Ok(Call::PktRecvI { port }),
+        Callee::SclSend => {
+            let bits = arguments.bits()?;
+            let value = arguments.value(bits)?;
+            Ok(Call::SclSend { port, bits, value })
+        }
+        Callee::SclRecv => Ok(Call::SclRecv {
+            port,
+            bits: arguments.bits()?,
+        }),
+        Callee::CloseSend => Ok(Call::CloseSend { port }),
+        Callee::CloseRecv => Ok(Call::CloseRecv { port }),
+        _ => Err(LineFault::Refused(LineReason::Form)),
     }
 }
