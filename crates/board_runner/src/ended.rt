@@ -13,8 +13,9 @@ use crate::station::Station;
 use board_model::{ChannelTotals, Scenario, Seq};
 use board_numbers::{Tally, add, append};
 use domain_core::{Journal, Link};
-use lane_end::{AnyRecv, AnySend, RecvHalf, SendHalf};
+use lane_end::{RecvHalf, SendHalf};
 use mc_base::NoMemory;
+use station_ends::{StationRecv, StationSend};
 use std::alloc::Global;
 
 /// What is left of a domain's ends of its link to a peer.
@@ -92,7 +93,7 @@ fn end_stations(
 /// Ends the links of a domain, and appends what is left of them.
 fn end_links(
     owner: u8,
-    links: Vec<Link<AnySend<'_>, AnyRecv<'_>>>,
+    links: Vec<Link<StationSend<'_>, StationRecv<'_>>>,
     ended: &mut Vec<EndedLink>,
 ) -> Result<(), NoMemory>
     requires { AllByRecursion IsOverRings links.items }
@@ -105,7 +106,7 @@ fn end_links(
 }
 
 /// Ends a domain's ends of a link.
-fn end_link(owner: u8, link: Link<AnySend<'_>, AnyRecv<'_>>) -> EndedLink
+fn end_link(owner: u8, link: Link<StationSend<'_>, StationRecv<'_>>) -> EndedLink
     requires { IsOverRings link }
     ensures { WireEnds (wire_of owner link.entry) result }
 {
@@ -118,8 +119,8 @@ fn end_link(owner: u8, link: Link<AnySend<'_>, AnyRecv<'_>>) -> EndedLink
     EndedLink {
         owner,
         peer,
-        send: send.into_half(),
-        recv: recv.into_half(),
+        send: send.into_any().into_half(),
+        recv: recv.into_any().into_half(),
     }
 }
 

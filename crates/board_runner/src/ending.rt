@@ -16,8 +16,8 @@ use board_numbers::{
     HeldBuffers, Tally, add, channels_of, count, count_journal, no_items, places_of, totals_of,
 };
 use domain_core::{Domain, Journal, Places};
-use lane_end::{AnyRecv, AnySend};
 use mc_base::{MAX_DOMAINS, NoMemory};
+use station_ends::{StationRecv, StationSend};
 use std::alloc::Global;
 
 /// Makes the outcome of a serial run that left these stations, which are in rising number. `NoMemory` is the only error.
@@ -67,7 +67,7 @@ fn tally_of(station: &Station<'_>) -> Tally
 }
 
 /// How many messages are queued in a domain, and where it holds buffers.
-fn held_by(domain: &Domain<AnySend<'_>, AnyRecv<'_>>) -> HeldBuffers
+fn held_by(domain: &Domain<StationSend<'_>, StationRecv<'_>>) -> HeldBuffers
     ensures { AreHeld domain.now.state result }
 {
     let mut held = HeldBuffers {

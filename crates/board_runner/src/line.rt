@@ -24,10 +24,10 @@ use board_model::{Call, CallLine};
 use channels::{close_recv, close_send, connect, open_recv, open_send};
 use domain_core::{Answer, Domain, Entry, Journal, Told};
 use items::{receive_packet, receive_scalar, release, request_packet, send_packet, send_scalar};
-use lane_end::{AnyRecv, AnySend};
 use mc_base::{Local, NoMemory, PacketId, Refusal, RequestId};
 use messages::{available, create, delete, put_raw, receive, send, turn};
 use requests::{cancel, lookup, request, test};
+use station_ends::{StationRecv, StationSend};
 use std::collections::HashMap;
 use waits::{run_wait, wait_limit};
 
@@ -192,7 +192,7 @@ fn call_line<'r>(
 
 /// Makes the call of a line at its domain. Labels name requests and packets by the ids that are held for them.
 fn call_domain<'r>(
-    domain: &mut Domain<AnySend<'_>, AnyRecv<'_>>,
+    domain: &mut Domain<StationSend<'_>, StationRecv<'_>>,
     journal: &mut Journal,
     ids: &HashMap<&[u8], RequestId>,
     packets: &HashMap<&[u8], PacketId>,

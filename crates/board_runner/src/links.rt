@@ -5,8 +5,8 @@ ghost use Rattle.board_runner.specs.Wired.{wire_at, links_wired};
 
 use crate::wires::{Wire, place_of_wire};
 use domain_core::Link;
-use lane_end::{AnyRecv, AnySend};
 use mc_base::{MAX_DOMAINS, NoMemory};
+use station_ends::{StationRecv, StationSend};
 use std::alloc::Global;
 
 /// The links of a domain in the rising order of their peers, taken out of the wires of its board.
@@ -18,7 +18,7 @@ pub(crate) fn links_of<'a>(
     alloc: Global,
     wires: &mut Vec<Wire<'a>>,
     domain: u8,
-) -> Result<Vec<Link<AnySend<'a>, AnyRecv<'a>>>, NoMemory>
+) -> Result<Vec<Link<StationSend<'a>, StationRecv<'a>>>, NoMemory>
     ensures links { IfOk result (λ v. v.items ≡ links_wired wires.old.items domain 8) }
     ensures others { OnOk result ((a b : ℕ) → a ≢ domain → wire_at wires.new.items a b ≡ wire_at wires.old.items a b) }
 {

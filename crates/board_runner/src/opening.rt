@@ -16,8 +16,8 @@ use crate::wires::Wire;
 use board_model::{DomainLine, Scenario};
 use board_numbers::line_of;
 use domain_core::{Domain, Journal, Link};
-use lane_end::{AnyRecv, AnySend};
 use mc_base::{MAX_DOMAINS, NoMemory};
+use station_ends::{StationRecv, StationSend};
 use std::alloc::Global;
 use std::collections::HashMap;
 
@@ -55,7 +55,7 @@ fn open_station<'a>(
     alloc: Global,
     _scenario: &Scenario,
     line: DomainLine,
-    links: Vec<Link<AnySend<'a>, AnyRecv<'a>>>,
+    links: Vec<Link<StationSend<'a>, StationRecv<'a>>>,
 ) -> Result<Station<'a>, NoMemory>
     requires board { IsLinkedBoard _scenario.now }
     requires line { IsLineIn _scenario.now line }

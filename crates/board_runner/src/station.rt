@@ -2,15 +2,15 @@
 
 use board_numbers::EndedDomain;
 use domain_core::{Domain, Journal};
-use lane_end::{AnyRecv, AnySend};
 use mc_base::{PacketId, RequestId};
+use station_ends::{StationRecv, StationSend};
 use std::collections::HashMap;
 
 /// A domain with its number, its journal, the ids of the requests that were given for labels and of the packets that were lent under
 /// them, how many of its lines were called, and how many messages its deletes dropped.
 #[derive(Drop)]
 pub struct Station<'a> {
-    pub domain: Domain<AnySend<'a>, AnyRecv<'a>>,
+    pub domain: Domain<StationSend<'a>, StationRecv<'a>>,
     pub domain_number: u8,
     pub journal: Journal,
     pub ids: HashMap<&'a [u8], RequestId>,

@@ -9,13 +9,14 @@ use board_numbers::append;
 use domain_core::Link;
 use lane_end::{AnyRecv, AnySend, open_queue0, open_queue1};
 use mc_base::NoMemory;
+use station_ends::{StationRecv, StationSend};
 use std::alloc::Global;
 
 /// A domain's ends of a link, with the number of the domain.
 #[derive(Drop)]
 pub struct Wire<'a> {
     pub owner: u8,
-    pub link: Link<AnySend<'a>, AnyRecv<'a>>,
+    pub link: Link<StationSend<'a>, StationRecv<'a>>,
 }
 
 /// Opens the lanes of all links: of each link its driver's ends and then its device's.
@@ -64,8 +65,8 @@ fn open_link<'a>(
         link: Link {
             peer: line.device,
             size: line.size,
-            send: AnySend::Driver(to_device),
-            recv: AnyRecv::Driver(from_device),
+            send: StationSend::polled(AnySend::Driver(to_device)),
+            recv: StationRecv::polled(AnyRecv::Driver(from_device)),
         },
     };
     let back = Wire {
@@ -73,8 +74,8 @@ fn open_link<'a>(
         link: Link {
             peer: line.driver,
             size: line.size,
-            send: AnySend::Device(to_driver),
-            recv: AnyRecv::Device(from_driver),
+            send: StationSend::polled(AnySend::Device(to_driver)),
+            recv: StationRecv::polled(AnyRecv::Device(from_driver)),
         },
     };
     Ok((there, back))

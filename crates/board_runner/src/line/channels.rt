@@ -9,12 +9,12 @@ ghost use Rattle.board_runner.specs.Lines.{CallsDomain};
 use super::Made;
 use crate::answers::{of_connect, of_number, of_unit};
 use domain_core::{CALL_BYTES, CALL_ENTRIES, Domain, Journal};
-use lane_end::{AnyRecv, AnySend};
 use mc_base::{EndName, Kind, Local, NoMemory, Refusal, RequestId};
+use station_ends::{StationRecv, StationSend};
 
 /// Connects an endpoint to one that can receive. A call that is refused gives no request.
 pub fn connect(
-    domain: &mut Domain<AnySend<'_>, AnyRecv<'_>>,
+    domain: &mut Domain<StationSend<'_>, StationRecv<'_>>,
     journal: &mut Journal,
     from: Local,
     to: EndName,
@@ -43,7 +43,7 @@ fn request_of(connected: Result<(RequestId, u32), Refusal>) -> Option<RequestId>
 
 /// Opens the sender's end of a channel.
 pub fn open_send(
-    domain: &mut Domain<AnySend<'_>, AnyRecv<'_>>,
+    domain: &mut Domain<StationSend<'_>, StationRecv<'_>>,
     journal: &mut Journal,
     at: Local,
     kind: Kind,
@@ -61,7 +61,7 @@ pub fn open_send(
 
 /// Opens the receiver's end of a channel.
 pub fn open_recv(
-    domain: &mut Domain<AnySend<'_>, AnyRecv<'_>>,
+    domain: &mut Domain<StationSend<'_>, StationRecv<'_>>,
     journal: &mut Journal,
     at: Local,
     kind: Kind,
@@ -79,7 +79,7 @@ pub fn open_recv(
 
 /// Closes the sender's end of a channel.
 pub fn close_send(
-    domain: &mut Domain<AnySend<'_>, AnyRecv<'_>>,
+    domain: &mut Domain<StationSend<'_>, StationRecv<'_>>,
     journal: &mut Journal,
     at: Local,
 ) -> Result<Made<'static>, NoMemory>
@@ -96,7 +96,7 @@ pub fn close_send(
 
 /// Closes the receiver's end of a channel, and returns how many items were dropped there.
 pub fn close_recv(
-    domain: &mut Domain<AnySend<'_>, AnyRecv<'_>>,
+    domain: &mut Domain<StationSend<'_>, StationRecv<'_>>,
     journal: &mut Journal,
     at: Local,
 ) -> Result<Made<'static>, NoMemory>

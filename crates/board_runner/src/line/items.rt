@@ -10,12 +10,12 @@ ghost use Rattle.board_runner.specs.Lines.{CallsDomain};
 use super::Made;
 use crate::answers::{of_packet, of_request, of_scalar, of_unit};
 use domain_core::{Answer, CALL_BYTES, CALL_ENTRIES, Domain, Journal};
-use lane_end::{AnyRecv, AnySend};
 use mc_base::{Bits, Local, NoMemory, PacketId};
+use station_ends::{StationRecv, StationSend};
 
 /// Sends a packet.
 pub fn send_packet(
-    domain: &mut Domain<AnySend<'_>, AnyRecv<'_>>,
+    domain: &mut Domain<StationSend<'_>, StationRecv<'_>>,
     journal: &mut Journal,
     at: Local,
     bytes: &[u8],
@@ -33,7 +33,7 @@ pub fn send_packet(
 
 /// Receives a packet, which is lent. Its bytes go to `out`, which has 9,000 bytes.
 pub fn receive_packet<'r>(
-    domain: &mut Domain<AnySend<'_>, AnyRecv<'_>>,
+    domain: &mut Domain<StationSend<'_>, StationRecv<'_>>,
     journal: &mut Journal,
     at: Local,
     out: &'r mut [u8],
@@ -58,7 +58,7 @@ pub fn receive_packet<'r>(
 
 /// Requests a packet. A call that is refused gives no request.
 pub fn request_packet(
-    domain: &mut Domain<AnySend<'_>, AnyRecv<'_>>,
+    domain: &mut Domain<StationSend<'_>, StationRecv<'_>>,
     journal: &mut Journal,
     at: Local,
 ) -> Result<Made<'static>, NoMemory>
@@ -75,7 +75,7 @@ pub fn request_packet(
 
 /// Releases a packet that is lent.
 pub fn release(
-    domain: &mut Domain<AnySend<'_>, AnyRecv<'_>>,
+    domain: &mut Domain<StationSend<'_>, StationRecv<'_>>,
     journal: &mut Journal,
     packet: PacketId,
 ) -> Result<Made<'static>, NoMemory>
@@ -92,7 +92,7 @@ pub fn release(
 
 /// Sends a number, which fits its bits.
 pub fn send_scalar(
-    domain: &mut Domain<AnySend<'_>, AnyRecv<'_>>,
+    domain: &mut Domain<StationSend<'_>, StationRecv<'_>>,
     journal: &mut Journal,
     at: Local,
     bits: Bits,
@@ -112,7 +112,7 @@ pub fn send_scalar(
 
 /// Receives a number of so many bits.
 pub fn receive_scalar(
-    domain: &mut Domain<AnySend<'_>, AnyRecv<'_>>,
+    domain: &mut Domain<StationSend<'_>, StationRecv<'_>>,
     journal: &mut Journal,
     at: Local,
     bits: Bits,

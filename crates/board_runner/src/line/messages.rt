@@ -10,12 +10,12 @@ ghost use Rattle.board_runner.specs.Lines.{CallsDomain};
 use super::Made;
 use crate::answers::{of_number, of_receive, of_unit};
 use domain_core::{Answer, CALL_BYTES, CALL_ENTRIES, Domain, Journal};
-use lane_end::{AnyRecv, AnySend};
 use mc_base::{EndName, Local, NoMemory, Priority};
+use station_ends::{StationRecv, StationSend};
 
 /// Makes an endpoint.
 pub fn create(
-    domain: &mut Domain<AnySend<'_>, AnyRecv<'_>>,
+    domain: &mut Domain<StationSend<'_>, StationRecv<'_>>,
     journal: &mut Journal,
     at: Local,
 ) -> Result<Made<'static>, NoMemory>
@@ -32,7 +32,7 @@ pub fn create(
 
 /// Ends an endpoint.
 pub fn delete(
-    domain: &mut Domain<AnySend<'_>, AnyRecv<'_>>,
+    domain: &mut Domain<StationSend<'_>, StationRecv<'_>>,
     journal: &mut Journal,
     at: Local,
 ) -> Result<Made<'static>, NoMemory>
@@ -50,7 +50,7 @@ pub fn delete(
 
 /// Sends a message.
 pub fn send(
-    domain: &mut Domain<AnySend<'_>, AnyRecv<'_>>,
+    domain: &mut Domain<StationSend<'_>, StationRecv<'_>>,
     journal: &mut Journal,
     from: Local,
     to: EndName,
@@ -70,7 +70,7 @@ pub fn send(
 
 /// Receives a message into `out`, which has at most 9,000 bytes.
 pub fn receive<'r>(
-    domain: &mut Domain<AnySend<'_>, AnyRecv<'_>>,
+    domain: &mut Domain<StationSend<'_>, StationRecv<'_>>,
     journal: &mut Journal,
     at: Local,
     out: &'r mut [u8],
@@ -89,7 +89,7 @@ pub fn receive<'r>(
 
 /// Counts the messages that are queued.
 pub fn available(
-    domain: &mut Domain<AnySend<'_>, AnyRecv<'_>>,
+    domain: &mut Domain<StationSend<'_>, StationRecv<'_>>,
     journal: &mut Journal,
     at: Local,
 ) -> Result<Made<'static>, NoMemory>
@@ -106,7 +106,7 @@ pub fn available(
 
 /// Puts a frame to a domain as it is.
 pub fn put_raw(
-    domain: &mut Domain<AnySend<'_>, AnyRecv<'_>>,
+    domain: &mut Domain<StationSend<'_>, StationRecv<'_>>,
     journal: &mut Journal,
     peer: u8,
     frame: &[u8],
@@ -126,7 +126,7 @@ pub fn put_raw(
 
 /// Makes a turn alone.
 pub fn turn(
-    domain: &mut Domain<AnySend<'_>, AnyRecv<'_>>,
+    domain: &mut Domain<StationSend<'_>, StationRecv<'_>>,
     journal: &mut Journal,
 ) -> Result<Made<'static>, NoMemory>
     ensures { IfOk result (λ made. (node : ℕ) → CallsDomain node turn_alone domain.old domain.new journal.old.lines journal.new.lines made) }

@@ -9,12 +9,12 @@ ghost use Rattle.board_runner.specs.Lines.{CallsDomain};
 use super::Made;
 use crate::answers::{of_request, of_test, of_tested_packet, of_unit};
 use domain_core::{CALL_BYTES, CALL_ENTRIES, Domain, Journal};
-use lane_end::{AnyRecv, AnySend};
 use mc_base::{Done, EndName, Local, NoMemory, RequestId};
+use station_ends::{StationRecv, StationSend};
 
 /// Asks for the address of an endpoint. A call that is refused gives no request.
 pub fn lookup(
-    domain: &mut Domain<AnySend<'_>, AnyRecv<'_>>,
+    domain: &mut Domain<StationSend<'_>, StationRecv<'_>>,
     journal: &mut Journal,
     name: EndName,
 ) -> Result<Made<'static>, NoMemory>
@@ -31,7 +31,7 @@ pub fn lookup(
 
 /// Requests a message. A call that is refused gives no request.
 pub fn request(
-    domain: &mut Domain<AnySend<'_>, AnyRecv<'_>>,
+    domain: &mut Domain<StationSend<'_>, StationRecv<'_>>,
     journal: &mut Journal,
     at: Local,
     max: u32,
@@ -49,7 +49,7 @@ pub fn request(
 
 /// Ends a request if it is complete. What it brings goes to `out`, which has 9,000 bytes. A packet that it brings is lent.
 pub fn test<'r>(
-    domain: &mut Domain<AnySend<'_>, AnyRecv<'_>>,
+    domain: &mut Domain<StationSend<'_>, StationRecv<'_>>,
     journal: &mut Journal,
     id: RequestId,
     out: &'r mut [u8],
@@ -75,7 +75,7 @@ pub fn test<'r>(
 
 /// Ends a request that is pending.
 pub fn cancel(
-    domain: &mut Domain<AnySend<'_>, AnyRecv<'_>>,
+    domain: &mut Domain<StationSend<'_>, StationRecv<'_>>,
     journal: &mut Journal,
     id: RequestId,
 ) -> Result<Made<'static>, NoMemory>

@@ -22,8 +22,8 @@ use crate::stations::turn_alone;
 use arrayvec::ArrayVec;
 use board_model::{Call, CallLine};
 use domain_core::{Answer, CALL_BYTES, CALL_ENTRIES, Domain, Journal, WaitFault};
-use lane_end::{AnyRecv, AnySend};
 use mc_base::{Done, NoMemory, Refusal, RequestId};
+use station_ends::{StationRecv, StationSend};
 
 /// The limit of turns of a call that waits.
 pub fn wait_limit(call: &Call) -> Option<u32>
@@ -234,7 +234,7 @@ fn wait_for<'r>(
 
 /// Waits for one request.
 fn wait_one<'r>(
-    domain: &mut Domain<AnySend<'_>, AnyRecv<'_>>,
+    domain: &mut Domain<StationSend<'_>, StationRecv<'_>>,
     journal: &mut Journal,
     number: u32,
     id: RequestId,
@@ -254,7 +254,7 @@ fn wait_one<'r>(
 
 /// Waits for one of several requests.
 fn wait_any<'r>(
-    domain: &mut Domain<AnySend<'_>, AnyRecv<'_>>,
+    domain: &mut Domain<StationSend<'_>, StationRecv<'_>>,
     journal: &mut Journal,
     number: u32,
     ids: &ArrayVec<RequestId, 8>,
@@ -275,7 +275,7 @@ fn wait_any<'r>(
 
 /// What a wait made that ended with a request: the place of the request among several, and the bytes of a message or packet.
 fn ended_with<'r>(
-    domain: &Domain<AnySend<'_>, AnyRecv<'_>>,
+    domain: &Domain<StationSend<'_>, StationRecv<'_>>,
     place: Option<u8>,
     done: Done,
     room: &'r mut [u8],
