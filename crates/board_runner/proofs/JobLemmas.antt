@@ -10,13 +10,13 @@ use Rattle.board_runner.specs.declared.threads.Job.{Job}
 use Rattle.board_runner.specs.Jobs.{AreJobs, MayRun, RunsJob, RunScripts}
 use Rattle.board_runner.specs.OwnRun.{HasNotBegun, RunsScript}
 
-pub jobs_more : (s : Scenario) (sts : List Station) (js : List Job) (st : Station) (j : Job) → AreJobs s sts js → j.scenario.now ≡ s → j.station ≡ st → AreJobs s (sts ++ st ∷ []) (js ++ j ∷ [])
+pub jobs_more : {P : Type 0} (s : Scenario) (sts : List Station) (js : List (Job P)) (st : Station) (j : Job P) → AreJobs s sts js → j.scenario.now ≡ s → j.station ≡ st → AreJobs s (sts ++ st ∷ []) (js ++ j ∷ [])
 jobs_more s [] [] st j are scenario station = (scenario, station, tt)
 jobs_more s [] (x ∷ js) st j are scenario station = absurd are
 jobs_more s (y ∷ sts) [] st j are scenario station = absurd are
 jobs_more s (y ∷ sts) (x ∷ js) st j are scenario station = (are.0, are.1, jobs_more s sts js st j are.2 scenario station)
 
-pub jobs_may : (s : Scenario) → IsLawfulBoard s → (sts : List Station) (js : List Job) → AreJobs s sts js → AllByRecursion HasNotBegun sts → (i : ℕ) (j : Job) → i < length js → j ≡ slice_index_or js i j → MayRun j
+pub jobs_may : {P : Type 0} (s : Scenario) → IsLawfulBoard s → (sts : List Station) (js : List (Job P)) → AreJobs s sts js → AllByRecursion HasNotBegun sts → (i : ℕ) (j : Job P) → i < length js → j ≡ slice_index_or js i j → MayRun j
 jobs_may s lawful [] [] are begin i j within is = absurd (omega (arith, within))
 jobs_may s lawful [] (x ∷ js) are begin i j within is = absurd are
 jobs_may s lawful (st ∷ sts) [] are begin i j within is = absurd are
@@ -32,8 +32,8 @@ pub ok_weaker : {A : Type 0} {P Q : A → Type 0} (r : Result A NoMemory) → If
 ok_weaker (Ok x) p f = f x p
 ok_weaker (Err e) p f = tt
 
-pub jobs_ran : (s : Scenario) (sts : List Station) (js : List Job) (news : List Station) → AreJobs s sts js → length (oks news) ≡ length js
-    → ((i : ℕ) (j : Job) (d : Result Station NoMemory) → i < length js → j ≡ slice_index_or js i j → IfOk (slice_index_or (oks news) i d) (RunsJob j)) → RunScripts s sts news
+pub jobs_ran : {P : Type 0} (s : Scenario) (sts : List Station) (js : List (Job P)) (news : List Station) → AreJobs s sts js → length (oks news) ≡ length js
+    → ((i : ℕ) (j : Job P) (d : Result Station NoMemory) → i < length js → j ≡ slice_index_or js i j → IfOk (slice_index_or (oks news) i d) (RunsJob j)) → RunScripts s sts news
 jobs_ran s [] [] [] are many ran = tt
 jobs_ran s [] [] (n ∷ news) are many ran = absurd (omega (arith, many))
 jobs_ran s [] (x ∷ js) news are many ran = absurd are

@@ -56,6 +56,7 @@ pub mod EndedLemmas
 pub mod MovedLemmas
 pub mod FinishingLemmas
 pub mod ThreadLemmas
+pub mod OverRings
 pub mod LendingLemmas
 pub mod WaitLemmas
 pub mod WaitStations
@@ -63,3 +64,4 @@ pub mod WaitRuns
 pub mod WaitTests
 pub mod WaitRounds
 pub mod OwnWaits
+pub mod PacedWaits

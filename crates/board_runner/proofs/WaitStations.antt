@@ -138,6 +138,38 @@ pub record TimedOut (ids : List RequestId) (says : Bool) (d : RunDomain) (a : Pl
   pub does : Does Moved 0 (wait_on ids says d) d d a None
   pub none : None ≡ does.lent
 
+-- a wait that waits is answered so, and does nothing
+module _ (ids : List RequestId) (says : Bool) (d : RunDomain) (rest : AllMoved Moved d.ends (map (λ p. []) (peers_of d)) d.ends) (waiting : is_timeout (answer d.state 0 (wait_on ids says d)) ≡ true) where
+  nothing : DoesNothing d.state 0 (wait_on ids says d)
+  nothing = refused_nothing d.state 0 Timeout (wait_on ids says d) (timeout-word (answer d.state 0 (wait_on ids says d)) waiting)
+
+  -- and so it does where its items are named
+  nothing_named : DoesNothing d.numbered 0 (wait_on ids says d)
+  nothing_named =
+      refused_nothing d.numbered 0 Timeout (wait_on ids says d)
+      (timeout-word (answer d.numbered 0 (wait_on ids says d))
+      (ap is_timeout (sym (answer-renamed no_names d.numbered 0 (wait_on ids says d)) ∙ ap (λ (x : DomainState). answer x 0 (wait_on ids says d)) (sym d.nameless)) ∙ waiting))
+
+  pub times-out-alone : (a : PlainAnswer) → a ≡ refuses Timeout → TimedOut ids says d a
+  times-out-alone a is = record {
+    does = record {
+      answer = is ∙ timeout-word (answer d.state 0 (wait_on ids says d)) waiting;
+      state = sym nothing.effect_is;
+      numbered = sym nothing_named.effect_is;
+      slots = [];
+      returned = sym nothing.returns_none;
+      named = λ peer. sym (ap (frames_from peer) nothing_named.returns_none);
+      moved = subst (λ (ps : List (ℕ × List ℕ)). AllMoved Moved d.ends (call_moves ps [] (peers_of d)) d.ends) (sym nothing.puts_none) rest;
+      stays = λ slot held apart. record { held = held; item = refl };
+      ids = sym (ap (λ (p : Option ℕ). without p d.ids ++ []) nothing.ends_none ∙ append-nil d.ids);
+      fresh = tt;
+      lent = None;
+      packets = sym (ap (λ (p : Option ℕ). without p d.packets ++ []) nothing.releases_none ∙ append-nil d.packets);
+      lends = sym nothing.lends_none;
+    };
+    none = refl;
+  }
+
 -- its next line waits
 module _ (s : Scenario) (t : run.Station) (st : Station) (h : IsStation s t st) (line : CallLine) (is_wait : IsSome (limit_of line.call)) where
   abbrev call : DomainCall
@@ -214,39 +246,8 @@ module _ (s : Scenario) (t : run.Station) (st : Station) (h : IsStation s t st) 
     }
 
   -- where it waits, its answer is a timeout, and that does nothing
-  module _ (waiting : is_timeout (answer t.run.state line.node (call_at t.run line)) ≡ true) where
-    nothing : DoesNothing st.domain.state 0 (wait_on ids says st.domain)
-    nothing = refused_nothing st.domain.state 0 Timeout (wait_on ids says st.domain) (timeout-word (answer st.domain.state 0 (wait_on ids says st.domain)) (waiting-is says ∙ waiting))
-
-    -- and so it does where its items are named
-    nothing_named : DoesNothing st.domain.numbered 0 (wait_on ids says st.domain)
-    nothing_named =
-        refused_nothing st.domain.numbered 0 Timeout (wait_on ids says st.domain)
-        (timeout-word (answer st.domain.numbered 0 (wait_on ids says st.domain))
-        (ap is_timeout (sym (answer-renamed no_names st.domain.numbered 0 (wait_on ids says st.domain)) ∙ ap (λ (x : DomainState). answer x 0 (wait_on ids says st.domain)) (sym st.domain.nameless))
-        ∙ (waiting-is says ∙ waiting)))
-
-    pub times-out : (a : PlainAnswer) → a ≡ refuses Timeout → TimedOut ids says st.domain a
-    times-out a is = record {
-      does = record {
-        answer = is ∙ timeout-word (answer st.domain.state 0 (wait_on ids says st.domain)) (waiting-is says ∙ waiting);
-        state = sym nothing.effect_is;
-        numbered = sym nothing_named.effect_is;
-        slots = [];
-        returned = sym nothing.returns_none;
-        named = λ peer. sym (ap (frames_from peer) nothing_named.returns_none);
-        moved =
-            subst (λ (ps : List (ℕ × List ℕ)). AllMoved Moved st.domain.ends (call_moves ps [] (peers_of st.domain)) st.domain.ends) (sym nothing.puts_none)
-            (all_rest t.line.domain (peers_of st.domain) st.domain.ends h.matched);
-        stays = λ slot held apart. record { held = held; item = refl };
-        ids = sym (ap (λ (p : Option ℕ). without p st.domain.ids ++ []) nothing.ends_none ∙ append-nil st.domain.ids);
-        fresh = tt;
-        lent = None;
-        packets = sym (ap (λ (p : Option ℕ). without p st.domain.packets ++ []) nothing.releases_none ∙ append-nil st.domain.packets);
-        lends = sym nothing.lends_none;
-      };
-      none = refl;
-    }
+  pub times-out : is_timeout (answer t.run.state line.node (call_at t.run line)) ≡ true → (a : PlainAnswer) → a ≡ refuses Timeout → TimedOut ids says st.domain a
+  times-out waiting a is = times-out-alone ids says st.domain (all_rest t.line.domain (peers_of st.domain) st.domain.ends h.matched) (waiting-is says ∙ waiting) a is
 
 -- a station of which all but its domain and its journal stayed
 pub same-station : (st w : Station) → w.ids ≡ st.ids → w.packets ≡ st.packets → w.number ≡ st.number → w.dropped ≡ st.dropped → w.domain_number ≡ st.domain_number → w ≡ turned_station st w.domain w.journal

@@ -6,6 +6,8 @@ use Rattle.board_model.specs.Scenario.{rising}
 use Rattle.board_model.specs.SerialRun.{opened}
 use Rattle.board_numbers.specs.ToldChannels.{TellChannels}
 use Rattle.board_runner.specs.declared.ended.Remains.{Remains}
+use Rattle.board_runner.specs.declared.rings.LinkHalves.{LinkHalves}
+use Rattle.board_runner.specs.declared.rings.LinkRings.{LinkRings}
 use Rattle.board_runner.specs.declared.station.Station.{Station}
 use Rattle.board_runner.specs.declared.wires.Wire.{Wire}
 use Rattle.board_runner.specs.Ended.{WiresEnd, wires_left}
@@ -14,6 +16,7 @@ use Rattle.board_runner.specs.Opened.{AreOpened}
 use Rattle.board_runner.specs.Outcome.{lines_in}
 use Rattle.board_runner.specs.OwnBoard.{RanAlone}
 use Rattle.board_runner.specs.Stations.{AreStations}
+use Rattle.board_runner.specs.Wired.{AreRings, wires_for}
 
 -- stations that were opened with these links ran, and this is left of them
 pub record RanApart (s : Scenario) (ws : List Wire) (left : Remains) : Type 0 where
@@ -26,3 +29,9 @@ pub record RanApart (s : Scenario) (ws : List Wire) (left : Remains) : Type 0 wh
   pub channels : TellChannels s (map ended_station news) left.channels
   pub told : lines_in left.journals ≡ map (λ st. st.journal.lines) news
   pub ended : WiresEnd (wires_left news) left.links.items
+
+-- and so they ran over these rings of the board's links
+pub record RanOver (s : Scenario) (rings : List LinkRings) (left : Remains) : Type 0 where
+  pub halves : List LinkHalves
+  pub new : AreRings s.links rings halves
+  pub apart : RanApart s (wires_for s.links rings) left

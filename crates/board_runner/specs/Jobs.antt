@@ -7,19 +7,19 @@ use Rattle.board_runner.specs.declared.station.Station.{Station}
 use Rattle.board_runner.specs.declared.threads.Job.{Job}
 use Rattle.board_runner.specs.OwnRun.{HasNotBegun, RunsScript}
 
--- one job for each station, all of one scenario
-abbrev pub AreJobs : Scenario → List Station → List Job → Type 0
+-- one job for each station, all of one scenario, whatever their paces
+abbrev pub AreJobs : {P : Type 0} → Scenario → List Station → List (Job P) → Type 0
 AreJobs s [] [] = Unit {0}
 AreJobs s (st ∷ sts) (j ∷ js) = (j.scenario.now ≡ s) × (j.station ≡ st) × AreJobs s sts js
 AreJobs s sts js = ⊥
 
 -- before it
-pub record MayRun (j : Job) : Type 0 where
+pub record MayRun {P : Type 0} (j : Job P) : Type 0 where
   pub lawful : IsLawfulBoard j.scenario.now
   pub begins : HasNotBegun j.station
 
 -- and after it
-abbrev pub RunsJob : Job → Station → Type 0
+abbrev pub RunsJob : {P : Type 0} → Job P → Station → Type 0
 RunsJob j st = RunsScript j.scenario.now j.station st
 
 -- whatever domain stood at each place, its script was run there

@@ -1,7 +1,7 @@
 -- What a runner does with a line that waits.
 -- Source: docs/PROFILE.md, "Waits" and "Serial run". A wait whose limit is 0 makes no turn of its own: it ends, or it begins and is answered
 -- with `timeout`.
-use Rattle.std.specs.Prelude.{◌≡◌, ℕ, ◌+◌, ◌≤◌, Bool, true, false, not, List, [], ◌∷◌, map, Option, None, Some}
+use Rattle.std.specs.Prelude.{◌≡◌, ℕ, ◌+◌, ◌≤◌, Bool, true, false, not, List, [], ◌∷◌, map, Option, None, Some, Ok, is_some}
 use Rattle.mc_base.specs.Limits.{asked_limit}
 use Rattle.mc_base.specs.declared.refusal.Refusal.{Refusal}
 use Rattle.mc_base.specs.declared.request.Done.{Done}
@@ -22,7 +22,7 @@ use Rattle.board_model.specs.SerialRun.{Running, all_turned, is_waiting_at, last
 use Rattle.domain_core.specs.declared.WaitFault.{WaitFault}
 use Rattle.domain_core.specs.declared.WaitFault.TheVariants as fault
 use Rattle.domain_core.specs.Ends.{EndsMoved}
-use Rattle.domain_core.specs.Waiting.{Waits}
+use Rattle.domain_core.specs.Waiting.{Polled, Waits}
 use Rattle.mc_journal.specs.Entry.{plain_answer, bytes_in_answer}
 use Rattle.board_runner.specs.declared.station.Station.{Station}
 use Rattle.board_runner.specs.declared.line.Made.{Made}
@@ -92,6 +92,13 @@ pub record RunsWait (line : CallLine) (limit : ℕ) (old new : Station) : Type 0
 abbrev pub NotesEnd : Bool → CallLine → Made → Station → Station → Type 0
 NotesEnd true line m old new = NotesCalled line m old new
 NotesEnd false line m old new = new ≡ old
+
+-- the turns of a wait that began at a domain alone: a request is complete after the last of them and after no other, or so many were made
+pub record PollsAlone (line : CallLine) (limit : ℕ) (is_settled : Bool) (old new : Station) : Type 0 where
+  pub found : Option ℕ
+  pub settled_is : is_settled ≡ is_some found
+  pub polled : Polled (EndsMoved AnySends AnyReceives) limit (ids_named old.ids line.call) old.domain new.domain old.journal.lines new.journal.lines (Ok found)
+  pub stays : new ≡ record old { domain = new.domain; journal = new.journal }
 
 pub record EndsAtOnce (line : CallLine) (has_ended : Bool) (old new : Station) : Type 0 where
   pub made : Made

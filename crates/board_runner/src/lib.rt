@@ -16,6 +16,7 @@ mod line;
 mod links;
 mod opening;
 mod outcome;
+mod owned;
 mod report;
 mod rings;
 mod script;

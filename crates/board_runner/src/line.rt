@@ -13,6 +13,7 @@ ghost use Rattle.board_runner.specs.Runs.{IsSomeNext, AllCarried, MayCount, Coun
 mod channels;
 mod items;
 mod messages;
+pub mod paced;
 mod requests;
 pub mod waits;
 

@@ -8,23 +8,26 @@ ghost use Rattle.board_runner.specs.OwnRun.{HasNotBegun, CountsOneLine, RunsNext
 ghost use Rattle.board_runner.specs.Runs.{MayCount};
 
 use crate::gate::Gate;
-use crate::line::waits::{wait_alone, wait_limit};
-use crate::line::{call_and_note, more_calls_of};
+use crate::line::more_calls_of;
+use crate::line::paced::{call_own, wait_own};
+use crate::line::waits::wait_limit;
 use crate::station::Station;
 use board_model::{CallLine, Scenario};
 use mc_base::{MAX_ASKED, NoMemory};
+use station_ends::Pace;
 use std::alloc::Global;
 
-/// Runs the whole script of a station's domain and returns the station. Each line passes the gate first.
+/// Runs the whole script of a station's domain and returns the station. Each line passes the gate first. A domain without a pace polls.
 ///
 /// # Errors
 ///
 /// `NoMemory`, at any time.
-pub(crate) fn run_script<'a, G: Gate>(
+pub(crate) fn run_script<'a, G: Gate, P: Pace + Drop>(
     alloc: Global,
     scenario: &'a Scenario,
     gate: &G,
     mut station: Station<'a>,
+    mut pace: Option<P>,
 ) -> Result<Station<'a>, NoMemory>
     requires lawful { IsLawfulBoard scenario.now }
     requires begins { HasNotBegun station }
@@ -37,21 +40,22 @@ pub(crate) fn run_script<'a, G: Gate>(
     for line in lines {
         if line.domain == station.domain_number {
             gate.pass(line.domain, station.number + 1);
-            run_own_line(&mut station, line, &mut room)?;
+            run_own_line(&mut station, line, &mut pace, &mut room)?;
         }
     }
     Ok(station)
 }
 
 /// Runs a line at its domain alone. Between two of its calls the domain makes only the turns of these calls, and a wait makes its own.
-/// What is received goes through `room`.
+/// Where the line is without end the domain goes at its pace. What is received goes through `room`.
 ///
 /// # Errors
 ///
 /// `NoMemory` where the journal or the labels cannot grow.
-fn run_own_line<'a>(
+fn run_own_line<'a, P: Pace>(
     station: &mut Station<'a>,
     line: &'a CallLine,
+    pace: &mut Option<P>,
     room: &mut [u8],
 ) -> Result<(), NoMemory>
     requires count { MayCount station.old }
@@ -62,14 +66,14 @@ fn run_own_line<'a>(
     ensures counts { OnOk result (CountsOneLine station.old station.new) }
 {
     if let Some(limit) = wait_limit(&line.call) {
-        wait_alone(station, line, limit, room)?;
+        wait_own(station, line, limit, pace, room)?;
         return Ok(());
     }
     for _call in 0..more_calls_of(line.tries) {
-        if !call_and_note(station, line, true, room)?.is_again {
+        if !call_own(station, line, true, pace, room)?.is_again {
             return Ok(());
         }
     }
-    call_and_note(station, line, false, room)?;
+    call_own(station, line, false, pace, room)?;
     Ok(())
 }

@@ -3,7 +3,7 @@
 ghost use Rattle.std.specs.Prelude.{◌≡◌, ◌<◌, ℕ, IfOk, Ok, length, map, slice_index_or};
 ghost use Rattle.std.specs.List.{AllByRecursion};
 ghost use Rattle.board_model.specs.Language.{IsLawfulBoard};
-ghost use Rattle.board_runner.specs.Apart.{RanApart};
+ghost use Rattle.board_runner.specs.Apart.{RanApart, RanOver};
 ghost use Rattle.board_runner.specs.Jobs.{AreJobs, MayRun, RunsJob, RunScripts};
 ghost use Rattle.board_runner.specs.OwnRun.{HasNotBegun};
 ghost use Rattle.board_runner.specs.ThreadRun.{IsThreadRun};
@@ -14,22 +14,25 @@ use crate::ended::{Remains, take_apart};
 use crate::finishing::finish_rings;
 use crate::gate::Gate;
 use crate::opening::open_stations;
-use crate::rings::rings_of;
+use crate::owned::{Owned, take_owned};
+use crate::rings::{LinkRings, rings_of};
 use crate::script::run_script;
 use crate::station::Station;
 use crate::wires::{Wire, wires_of};
 use board_model::Scenario;
 use board_numbers::{append, places_of, totals_of};
 use mc_base::NoMemory;
+use station_ends::{Pace, Polls};
 use std::alloc::{AllocError, Global};
 use std::thread;
 use std::thread::Threads;
 
-/// A station with the scenario whose lines it runs.
+/// A station with the scenario whose lines it runs, and its pace. Without one it polls.
 #[derive(Drop)]
-struct Job<'a> {
+struct Job<'a, P> {
     scenario: &'a Scenario,
     station: Station<'a>,
+    pace: Option<P>,
 }
 
 /// Runs a scenario with a thread for each domain, joins them, and returns what the run left (docs/PROFILE.md, "Runs on threads").
@@ -53,8 +56,23 @@ pub fn run_threads<T: Threads + Sync, G: Gate + Sync>(
     let links = scenario.links.as_slice();
     let (rings, halves) = rings_of(alloc, links)?;
     let wires = wires_of(alloc, links, rings.as_slice(), halves)?;
-    let left = run_domains(rt, alloc, scenario, gate, wires)?;
-    let closed = finish_rings(alloc, links, rings, left.links)?;
+    let paces: Vec<Owned<Polls>> = Vec::new(alloc);
+    let left = run_domains(rt, alloc, scenario, gate, wires, paces)?;
+    outcome_left(alloc, scenario, rings, left)
+}
+
+/// Finishes the rings of a board whose domains ran over them, and makes the outcome of what is left.
+fn outcome_left(
+    alloc: Global,
+    scenario: &Scenario,
+    rings: Vec<LinkRings>,
+    left: Remains,
+) -> Result<Outcome, NoMemory>
+    requires lawful { IsLawfulBoard scenario.now }
+    requires ran { RanOver scenario.now rings.items left }
+    ensures { IfOk result (IsThreadRun scenario.now) }
+{
+    let closed = finish_rings(alloc, scenario.links.as_slice(), rings, left.links)?;
     let tallies = left.tallies.as_slice();
     let places = places_of(alloc, scenario, tallies)?;
     let messages = totals_of(scenario, tallies);
@@ -67,20 +85,22 @@ pub fn run_threads<T: Threads + Sync, G: Gate + Sync>(
     })
 }
 
-/// Runs the domains of a lawful board over these ends of its links, each on a thread of its own, and takes them apart.
-fn run_domains<'a, T: Threads + Sync, G: Gate + Sync>(
+/// Runs the domains of a lawful board over these ends of its links, each on a thread of its own, and takes them apart. Those that own a
+/// pace go at it, and the others poll.
+fn run_domains<'a, T: Threads + Sync, G: Gate + Sync, P: Pace + Drop + Send>(
     rt: &T,
     alloc: Global,
     scenario: &'a Scenario,
     gate: &G,
     wires: Vec<Wire<'a>>,
+    paces: Vec<Owned<P>>,
 ) -> Result<Remains, NoMemory>
     requires lawful { IsLawfulBoard scenario.now }
     requires wired { IsWired scenario.now wires.items }
     ensures { IfOk result (RanApart scenario.now wires.entry.items) }
 {
     let stations = open_stations(alloc, scenario, wires)?;
-    let ran = run_stations(rt, alloc, scenario, gate, stations)?;
+    let ran = run_stations(rt, alloc, scenario, gate, stations, paces)?;
     take_apart(alloc, scenario, ran)
 }
 
@@ -89,45 +109,56 @@ fn run_domains<'a, T: Threads + Sync, G: Gate + Sync>(
 /// # Errors
 ///
 /// `NoMemory`, at any time.
-fn run_stations<'a, T: Threads + Sync, G: Gate + Sync>(
+fn run_stations<'a, T: Threads + Sync, G: Gate + Sync, P: Pace + Drop + Send>(
     rt: &T,
     alloc: Global,
     scenario: &'a Scenario,
     gate: &G,
     stations: Vec<Station<'a>>,
+    paces: Vec<Owned<P>>,
 ) -> Result<Vec<Station<'a>>, NoMemory>
     requires lawful { IsLawfulBoard scenario.now }
     requires begin { AllByRecursion HasNotBegun stations.items }
     ensures { IfOk result (λ v. RunScripts scenario.now stations.entry.items v.items) }
 {
-    let jobs = jobs_for(alloc, scenario, stations)?;
+    let jobs = jobs_for(alloc, scenario, stations, paces)?;
     let Ok(results) = run_jobs(rt, alloc, gate, jobs) else {
         return Err(NoMemory);
     };
     all_of(alloc, results)
 }
 
-/// A job for each station.
-fn jobs_for<'a>(
+/// A job for each station, with the pace that its domain owns.
+fn jobs_for<'a, P: Drop>(
     alloc: Global,
     scenario: &'a Scenario,
     stations: Vec<Station<'a>>,
-) -> Result<Vec<Job<'a>>, NoMemory>
+    mut paces: Vec<Owned<P>>,
+) -> Result<Vec<Job<'a, P>>, NoMemory>
     ensures { IfOk result (λ v. AreJobs scenario.now stations.entry.items v.items) }
 {
     let mut jobs = Vec::new(alloc);
     for station in stations {
-        append(&mut jobs, Job { scenario, station })?;
+        let owner = station.domain_number;
+        let pace = take_owned(&mut paces, owner);
+        append(
+            &mut jobs,
+            Job {
+                scenario,
+                station,
+                pace,
+            },
+        )?;
     }
     Ok(jobs)
 }
 
 /// Runs each job on a thread of its own.
-fn run_jobs<'a, T: Threads + Sync, G: Gate + Sync>(
+fn run_jobs<'a, T: Threads + Sync, G: Gate + Sync, P: Pace + Drop + Send>(
     rt: &T,
     alloc: Global,
     gate: &G,
-    jobs: Vec<Job<'a>>,
+    jobs: Vec<Job<'a, P>>,
 ) -> Result<Vec<Result<Station<'a>, NoMemory>>, AllocError>
     requires { (i : ℕ) (j : _) → i < length jobs.items → j ≡ slice_index_or jobs.items i j → MayRun j }
     ensures len { IfOk result (λ v. length v.items ≡ length jobs.entry.items) }
@@ -136,10 +167,10 @@ fn run_jobs<'a, T: Threads + Sync, G: Gate + Sync>(
     thread::map_vec(
         rt,
         jobs,
-        &|job: Job<'_>| -> Result<Station<'_>, NoMemory>
+        &|job: Job<'_, P>| -> Result<Station<'_>, NoMemory>
             requires { MayRun job }
             ensures { IfOk result (RunsJob job.entry) }
-        { run_script(alloc, job.scenario, gate, job.station) },
+        { run_script(alloc, job.scenario, gate, job.station, job.pace) },
     )
 }
 

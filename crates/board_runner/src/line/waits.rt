@@ -90,7 +90,7 @@ fn test_wait<'a>(
 }
 
 /// Does so at the station of the line's domain.
-fn end_at_once<'a>(
+pub fn end_at_once<'a>(
     station: &mut Station<'a>,
     line: &'a CallLine,
     room: &mut [u8],
@@ -144,7 +144,7 @@ fn turn_until_settled(
 }
 
 /// Whether one of the requests of a wait is complete.
-fn is_settled(station: &Station<'_>, line: &CallLine) -> bool
+pub fn is_settled(station: &Station<'_>, line: &CallLine) -> bool
     requires waits { IsSome (limit_of line.now.call) }
     requires asks { HasFitNumbers asked_limit line.now.call }
     ensures { result ≡ is_some (first_settled (ids_named station.now.ids line.now.call) station.now.domain) }
@@ -311,7 +311,8 @@ fn not_ended<'r>(fault: WaitFault) -> Result<Made<'r>, NoMemory>
     }
 }
 
-fn refused<'r>(word: Refusal) -> Made<'r>
+/// What a call made that was refused.
+pub fn refused<'r>(word: Refusal) -> Made<'r>
     ensures answer { plain_answer result.answer ≡ refuses word }
     ensures given { result.given ≡ None }
     ensures lent { result.lent ≡ None }

@@ -3,7 +3,7 @@ use Rattle.board_runner.proofs.OwnRunLemmas.{CountsNothing, Tried}
 use Rattle.board_runner.proofs.script.run_own_line.Given as goal
 
 abbrev pub invariant-loop-call : goal.invariant-loop-call
-invariant-loop-call l = record {
+invariant-loop-call g l = record {
   tried : Tried l.line l._call l.fn.station l.station;
   counts : CountsNothing l.fn.station l.station;
   room : length l.room ≡ 9000;
