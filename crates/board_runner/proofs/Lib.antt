@@ -57,6 +57,7 @@ pub mod MovedLemmas
 pub mod FinishingLemmas
 pub mod ThreadLemmas
 pub mod OverRings
+pub mod BellLemmas
 pub mod LendingLemmas
 pub mod WaitLemmas
 pub mod WaitStations

@@ -1,5 +1,6 @@
 pub mod Carried
 pub mod Apart
+pub mod Bells
 pub mod Ended
 pub mod Finishing
 pub mod Held

@@ -1,11 +1,12 @@
 //! Runs the domains of a scenario, and writes the report of the run.
 //!
 //! [`run_serial`] runs all lines on one thread in the file's order; [`run_threads`] runs each domain's lines on a thread of its
-//! own. Both return an [`Outcome`], of which [`write_report`] writes the report (docs/FORMATS.md, "Report") without taking
-//! memory.
+//! own, and so does [`run_bells`], whose domains sleep where they wait without end. All return an [`Outcome`], of which [`write_report`]
+//! writes the report (docs/FORMATS.md, "Report") without taking memory.
 #![tactic(auto)]
 
 mod answers;
+mod bells;
 mod carrying;
 mod ended;
 mod ending;
@@ -31,4 +32,4 @@ pub use gate::{Gate, NoGate};
 pub use outcome::Outcome;
 pub use report::{put_summary, write_report};
 pub use serial::run_serial;
-pub use threads::run_threads;
+pub use threads::{run_bells, run_threads};

@@ -10,6 +10,7 @@ ghost use Rattle.board_runner.specs.ThreadRun.{IsThreadRun};
 ghost use Rattle.board_runner.specs.Wired.{IsWired};
 
 use crate::Outcome;
+use crate::bells::{bells_of, hang_bells};
 use crate::ended::{Remains, take_apart};
 use crate::finishing::finish_rings;
 use crate::gate::Gate;
@@ -24,6 +25,7 @@ use board_numbers::{append, places_of, totals_of};
 use mc_base::NoMemory;
 use station_ends::{Pace, Polls};
 use std::alloc::{AllocError, Global};
+use std::sync::Wait;
 use std::thread;
 use std::thread::Threads;
 
@@ -57,6 +59,34 @@ pub fn run_threads<T: Threads + Sync, G: Gate + Sync>(
     let (rings, halves) = rings_of(alloc, links)?;
     let wires = wires_of(alloc, links, rings.as_slice(), halves)?;
     let paces: Vec<Owned<Polls>> = Vec::new(alloc);
+    let left = run_domains(rt, alloc, scenario, gate, wires, paces)?;
+    outcome_left(alloc, scenario, rings, left)
+}
+
+/// Runs a scenario as [`run_threads`] does, but that a domain sleeps on a line without end: a wait whose limit is 4294967295, or a
+/// line with `try 4294967295`. On such a line it makes its next turn or call once a peer has rung. Other lines poll, and so does a domain
+/// without links.
+///
+/// It may never return where `run_threads` would poll on: a partner that ended its script, or ran out of memory, rings nobody any more,
+/// and where no thread can be started the domains run one after the other. The scenario has to be lawful.
+///
+/// # Errors
+///
+/// `NoMemory` where an allocation fails, in any of the domains. All threads are joined then.
+pub fn run_bells<T: Threads + Wait + Sync, G: Gate + Sync>(
+    rt: &T,
+    alloc: Global,
+    scenario: &Scenario,
+    gate: &G,
+) -> Result<Outcome, NoMemory>
+    requires { IsLawfulBoard scenario.now }
+    ensures { IfOk result (IsThreadRun scenario.now) }
+{
+    let links = scenario.links.as_slice();
+    let (bells, parts) = bells_of(alloc, scenario)?;
+    let (rings, halves) = rings_of(alloc, links)?;
+    let wires = wires_of(alloc, links, rings.as_slice(), halves)?;
+    let (wires, paces) = hang_bells(alloc, rt, bells.as_slice(), parts, wires)?;
     let left = run_domains(rt, alloc, scenario, gate, wires, paces)?;
     outcome_left(alloc, scenario, rings, left)
 }
