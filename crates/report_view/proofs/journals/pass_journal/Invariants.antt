@@ -1,0 +1,9 @@
+use Rattle.std.proofs.Common.{◌≤◌, length}
+use Rattle.report_text.specs.Texts.{longest_line}
+use Rattle.report_view.proofs.journals.pass_journal.Given as goal
+
+abbrev pub decreases-loop-after : goal.decreases-loop-after
+decreases-loop-after l = length l.rest
+
+abbrev pub invariant-loop-after : goal.invariant-loop-after
+invariant-loop-after l = longest_line l.rest ≤ longest_line l.text

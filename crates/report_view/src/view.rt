@@ -1,0 +1,91 @@
+//! What a report says, to be shown.
+
+ghost use Rattle.std.specs.Prelude.{◌≡◌, ◌<◌, Err, IfOk, Ok, length};
+ghost use Rattle.report_text.specs.TextPass.{told_by_text};
+ghost use Rattle.report_text.specs.TextRead.{IfWrong, told_of};
+
+use crate::journals::journals_of;
+use crate::script::{ScriptLine, script_of};
+use board_model::Scenario;
+use mc_base::NoMemory;
+use report_text::{JournalLines, ReportText, TextFault, read_text, rising_domains};
+use std::alloc::Global;
+
+/// What a report says of a domain: the lines of its script, and those of its journal.
+#[derive(Drop)]
+pub struct DomainView<'a> {
+    pub script: Vec<ScriptLine<'a>>,
+    pub journal: JournalLines<'a>,
+}
+
+impl<'a> DomainView<'a> {
+    /// Returns a line of the script by its number, counted from 1. Where the script has no such line, it is an empty one of the number 0, which
+    /// makes no call of the scenario.
+    pub fn line_numbered(&self, number: u32) -> ScriptLine<'a> {
+        let none = ScriptLine {
+            number: 0,
+            text: b"",
+            call: usize::MAX,
+        };
+        if number == 0 {
+            return none;
+        }
+        self.script
+            .get(number as usize - 1)
+            .copied()
+            .unwrap_or(none)
+    }
+}
+
+/// What a report says: its mode and its scenario, and its domains in rising number.
+#[derive(Drop)]
+pub struct View<'a> {
+    pub told: ReportText<'a>,
+    pub domains: Vec<DomainView<'a>>,
+}
+
+/// Reads a report. The memory that it takes is that of its scenario, 40 bytes for each of its calls, and the longest line. Whether the
+/// journals are those of a run is not asked.
+///
+/// # Errors
+///
+/// `Wrong` with the first line that the format does not allow at its place, where the report is none; `NoMemory` where an allocation fails.
+pub fn read_view(alloc: Global, report: &[u8]) -> Result<View<'_>, TextFault>
+    requires { length report.now < 4_294_967_295 }
+    ensures told { IfOk result (λ v. told_by_text report.now ≡ Ok (told_of v.told)) }
+    ensures wrong { IfWrong result (λ line. told_by_text report.now ≡ Err line) }
+{
+    let told = read_text(alloc, report)?;
+    let domains = domain_views(alloc, report, &told)?;
+    Ok(View { told, domains })
+}
+
+/// Returns what a report says of its domains.
+fn domain_views<'a>(
+    alloc: Global,
+    report: &'a [u8],
+    told: &ReportText<'a>,
+) -> Result<Vec<DomainView<'a>>, NoMemory> {
+    let lines = rising_domains(alloc, told.scenario.domains.as_slice())?;
+    let journals = journals_of(alloc, &lines, told.line, told.behind)?;
+    let mut domains = Vec::new(alloc);
+    for journal in &journals {
+        add_domain(alloc, &mut domains, report, &told.scenario, *journal)?;
+    }
+    Ok(domains)
+}
+
+/// Adds the domain of a journal.
+fn add_domain<'a>(
+    alloc: Global,
+    domains: &mut Vec<DomainView<'a>>,
+    report: &'a [u8],
+    scenario: &Scenario,
+    journal: JournalLines<'a>,
+) -> Result<(), NoMemory> {
+    let script = script_of(alloc, report, scenario, journal.domain)?;
+    if domains.push(DomainView { script, journal }).is_err() {
+        return Err(NoMemory);
+    }
+    Ok(())
+}
