@@ -1,0 +1,10 @@
+use Rattle.std.proofs.Common.{◌≤◌, length}
+use Rattle.report_text.specs.Texts.{longest_line}
+use Rattle.report_view.specs.Texts.{PutsText}
+use Rattle.view_cli.proofs.text.put_entries.Given as goal
+
+abbrev pub invariant-loop-done : goal.invariant-loop-done
+invariant-loop-done g l = record {
+  puts : PutsText g.K.Sink l.initial.out l.out;
+  fits : longest_line l.rest ≤ length l.room;
+}

@@ -1,0 +1,7 @@
+use Rattle.std.proofs.Common.{arith}
+use Rattle.view_cli.proofs.Showing.{ends_unasked}
+use Rattle.view_cli.proofs.top.mcview.Goals as goal
+
+pub returns-in-None : goal.returns-in-None
+returns-in-None g c =
+    ends_unasked g.S.Source g.K.Sink c.write_all.result 2 c.after_write.result _ _ _ (record { text = _; bytes = c.write_all.ensures.bytes; cause = c.write_all.ensures.cause }) c.after_write.ensures.whole c.after_write.ensures.failed (omega arith)

@@ -1,0 +1,98 @@
+ghost use Rattle.std.specs.Prelude.{◌≡◌, ◌<◌, length};
+ghost use Rattle.report_view.specs.Texts.{PutsText, WritesText};
+ghost use Rattle.view_cli.specs.Statuses.{Ends, Shows};
+
+use crate::form::{Form, form_of};
+use crate::refused::tell_refused;
+use crate::status::{self, after_write};
+use crate::text::tell_text;
+use outer_io::{Failed, ReadFault, Sink, Source, Writer, read_all, write_all};
+use report_text::TextFault;
+use report_view::{View, read_view};
+use std::alloc::Global;
+
+/// The most bytes of a report.
+const REPORT_LIMIT: usize = 268_435_456;
+
+/// What is written where the words are none of the forms.
+const USAGE: &[u8] =
+    b"usage: mcview refused | text [--domain D] [--channel D N] [--line K] [--refused]\n";
+
+/// Does what the words say with the report of a board, writes the output, and returns the status to end with.
+///
+/// The form `refused` writes the calls that were refused, one a line: the number of the call's line in the report, its domain, its number in the
+/// domain's script, the line, and behind a colon the word of the refusal. The form `text` writes what each domain did for each line of its
+/// script, in words. Its options keep the calls of a domain, those with a frame of a channel, that of a line, or those that were refused.
+///
+/// The statuses are 0 where the output was written, 1 where `refused` wrote a line, 2 where the words are none of the forms and the usage was
+/// written, 3 where the input is no report and its first wrong line was written, 4 where a read failed, 5 where a write failed, 6 where an
+/// allocation failed, and 7 where the input has more than 268,435,456 bytes.
+pub fn mcview<S: Source, K: Sink>(
+    alloc: Global,
+    words: &[String],
+    input: &mut S,
+    output: &mut K,
+) -> u8
+    ensures { Ends S.Source K.Sink result input.old input.new output.old output.new }
+{
+    match form_of(words) {
+        Some(form) => with_input(alloc, form, input, output),
+        None => after_write(write_all(output, USAGE), status::USAGE),
+    }
+}
+
+/// Reads a report, and shows it. Returns the status.
+fn with_input<S: Source, K: Sink>(alloc: Global, form: Form, input: &mut S, output: &mut K) -> u8
+    ensures { Ends S.Source K.Sink result input.old input.new output.old output.new }
+{
+    match read_all(alloc, input, REPORT_LIMIT) {
+        Ok(report) => with_report(alloc, form, &report, output),
+        Err(ReadFault::Failed) => status::READ_FAILED,
+        Err(ReadFault::TooLong) => status::TOO_LONG,
+        Err(ReadFault::NoMemory) => status::NO_MEMORY,
+    }
+}
+
+/// Shows a report, or writes its first wrong line. Returns the status.
+fn with_report<K: Sink>(alloc: Global, form: Form, report: &[u8], output: &mut K) -> u8
+    requires { length report.now < 4_294_967_295 }
+    ensures { Shows K.Sink result output.old output.new }
+{
+    match read_view(alloc, report) {
+        Ok(view) => show(alloc, form, &view, output),
+        Err(TextFault::Wrong { line }) => after_write(write_wrong(line, output), status::NO_REPORT),
+        Err(TextFault::NoMemory) => status::NO_MEMORY,
+    }
+}
+
+/// Shows what a report says. Returns the status.
+fn show<K: Sink>(alloc: Global, form: Form, view: &View<'_>, output: &mut K) -> u8
+    ensures { Shows K.Sink result output.old output.new }
+{
+    match form {
+        Form::Refused => tell_refused(alloc, view, output),
+        Form::Text(filter) => tell_text(alloc, view, filter, output),
+    }
+}
+
+/// Writes the first wrong line of an input that is no report, as `mcrun check` does.
+///
+/// # Errors
+///
+/// `Failed` where a write failed.
+fn write_wrong<K: Sink>(line: u32, output: &mut K) -> Result<(), Failed>
+    ensures { WritesText K.Sink output.old output.new result }
+{
+    let mut out = Writer::new(output);
+    put_wrong(&mut out, line);
+    out.finish()
+}
+
+#[tactic(auto, using(report_view::proofs::TextSteps::text_steps))]
+fn put_wrong<K: Sink>(out: &mut Writer<'_, K>, line: u32)
+    ensures { PutsText K.Sink out.old out.new }
+{
+    out.put(b"wrong ");
+    out.put_number(u64::from(line));
+    out.put(b" text\n");
+}
