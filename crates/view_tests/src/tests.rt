@@ -1,3 +1,5 @@
+mod programs;
+
 use event_order::{Event, What, order_events};
 use outer_io::{MemSink, Writer};
 use picture_text::{put_json, put_xml};

@@ -1,0 +1,280 @@
+//! The forms of the program `mcview`, and reports with slips.
+
+use outer_io::{MemSink, MemSource};
+use std::alloc::{AllocError, Global};
+use std::test::Fail;
+use view_cli::mcview;
+
+/// A domain of one buffer: what no call may do is told by its answer.
+const ONE_BUFFER: &str = "mcapi-report 1 serial
+domain 3 nodes 2 pool 1
+3.0 create 1
+3.1 create 7
+3.0 create 1
+3.0 msg_send 1 3:1:7 1 666972737420
+3.0 msg_send 1 3:1:7 1 7365636f6e64
+3.1 msg_recv 7 3
+journal 3
+idle 1
+call 1 ok 1024
+idle 1
+call 2 ok 1025
+idle 1
+call 3 exists_already
+idle 1
+put 3 0004000001040000000000000e0000004d01010100000000666972737420
+call 4 ok
+turn
+see 3 1
+take 3 0004000001040000000000000e0000004d01010100000000666972737420 queued
+call 5 no_buffer
+idle 1
+call 6 truncated 6 666972
+messages accepted 1 taken 1 dropped 0 queued 0 ring 0
+lane 3 3 free 1 ring 0 queue 0 lent 0
+end
+";
+
+const ONE_BUFFER_REFUSED: &str = "5 3 3 3.0 create 1: exists_already
+7 3 5 3.0 msg_send 1 3:1:7 1 7365636f6e64: no_buffer
+";
+
+const ONE_BUFFER_TEXT: &str = "domain 3
+3: 3.0 create 1
+    idle turns: 1
+    answer ok 1024
+4: 3.1 create 7
+    idle turns: 1
+    answer ok 1025
+5: 3.0 create 1
+    idle turns: 1
+    answer exists_already
+6: 3.0 msg_send 1 3:1:7 1 666972737420
+    idle turns: 1
+    put to 3: 1024 to 1025: message of priority 1, \"first \"
+    answer ok
+7: 3.0 msg_send 1 3:1:7 1 7365636f6e64
+    turn
+    frames there from 3: 1
+    take from 3: 1024 to 1025: message of priority 1, \"first \": queued
+    answer no_buffer
+8: 3.1 msg_recv 7 3
+    idle turns: 1
+    answer truncated 6 \"fir\"
+";
+
+const ONE_BUFFER_LINE: &str = "domain 3
+5: 3.0 create 1
+    idle turns: 1
+    answer exists_already
+";
+
+/// Two linked domains, of which one waits in vain for an endpoint of the other.
+const WAIT: &str = "mcapi-report 1 serial
+domain 0 nodes 1 pool 2
+domain 1 nodes 1 pool 2
+link 0 1 size 4
+0.0 far = lookup 1:0:7
+0.0 wait far 3
+1.0 create 1
+journal 0
+idle 1
+call 1 ok 0
+wait 2
+idle 3
+call 2 timeout
+journal 1
+idle 1
+call 1 ok 1024
+messages accepted 0 taken 0 dropped 0 queued 0 ring 0
+lane 0 0 free 2 ring 0 queue 0 lent 0
+lane 0 1 free 4 ring 0 queue 0 lent 0
+lane 1 0 free 4 ring 0 queue 0 lent 0
+lane 1 1 free 2 ring 0 queue 0 lent 0
+end
+";
+
+const WAIT_TEXT: &str = "domain 0
+6: 0.0 wait far 3
+    wait
+    idle turns: 3
+    answer timeout
+        turns of the wait: 3
+        waited for line 5: 0.0 far = lookup 1:0:7
+        taken from 0 so far: 0 of the 0 frames that it puts in all
+        taken from 1 so far: 0 of the 0 frames that it puts in all
+domain 1
+";
+
+const USAGE: &str =
+    "usage: mcview refused | text [--domain D] [--channel D N] [--line K] [--refused]\n";
+
+/// The number of no call of a source or sink.
+const NEVER: u64 = 1_000_000_000;
+
+/// A call of the program: the words, the input, and which read and which write fail.
+#[derive(Clone, Copy)]
+struct Given<'a> {
+    words: &'a [&'a str],
+    text: &'a [u8],
+    failing_read: u64,
+    failing_write: u64,
+}
+
+fn words_of(alloc: Global, texts: &[&str]) -> Result<Vec<String>, AllocError> {
+    let mut words = Vec::new(alloc);
+    for text in texts {
+        words.push(String::from_str(alloc, text)?)?;
+    }
+    Ok(words)
+}
+
+/// The status and the output of a call.
+fn outcome_of(alloc: Global, given: Given<'_>) -> Result<(u8, MemSink), AllocError> {
+    let words = words_of(alloc, given.words)?;
+    let text = Vec::from_slice(alloc, given.text)?;
+    let failing_reads = Vec::from_slice(alloc, &[given.failing_read])?;
+    let failing_writes = Vec::from_slice(alloc, &[given.failing_write])?;
+    let mut input = MemSource::new(text, failing_reads, 4096);
+    let Ok(mut output) = MemSink::new(alloc, failing_writes, 4096, 1_000_000) else {
+        return Err(AllocError);
+    };
+    let status = mcview(alloc, &words, &mut input, &mut output);
+    Ok((status, output))
+}
+
+/// Whether this status and this output come of words and a text.
+fn comes_out(
+    alloc: Global,
+    given: Given<'_>,
+    status: u8,
+    written: &[u8],
+) -> Result<bool, AllocError> {
+    let (answer, output) = outcome_of(alloc, given)?;
+    Ok(answer == status && output.written() == written)
+}
+
+/// Words and a text, with streams that fail nowhere.
+fn unfailing<'a>(words: &'a [&'a str], text: &'a [u8]) -> Given<'a> {
+    Given {
+        words,
+        text,
+        failing_read: NEVER,
+        failing_write: NEVER,
+    }
+}
+
+/// Words and a text, and the status and the output that come of them.
+type Outcome<'a> = (&'a [&'a str], &'a str, u8, &'a str);
+
+static OUTCOMES: [Outcome<'static>; 18] = [
+    (&["refused"], ONE_BUFFER, 1, ONE_BUFFER_REFUSED),
+    (&["refused"], WAIT, 1, "6 0 2 0.0 wait far 3: timeout\n"),
+    (&["text"], ONE_BUFFER, 0, ONE_BUFFER_TEXT),
+    (&["text", "--domain", "3"], ONE_BUFFER, 0, ONE_BUFFER_TEXT),
+    (&["text", "--domain", "0"], ONE_BUFFER, 0, ""),
+    (&["text", "--line", "5"], ONE_BUFFER, 0, ONE_BUFFER_LINE),
+    (
+        &["text", "--line", "5", "--refused"],
+        ONE_BUFFER,
+        0,
+        ONE_BUFFER_LINE,
+    ),
+    (
+        &["text", "--line", "4", "--refused"],
+        ONE_BUFFER,
+        0,
+        "domain 3\n",
+    ),
+    (
+        &["text", "--channel", "3", "1"],
+        ONE_BUFFER,
+        0,
+        "domain 3\n",
+    ),
+    (&["text", "--refused"], WAIT, 0, WAIT_TEXT),
+    (&["text"], "", 3, "wrong 1 text\n"),
+    (&["refused"], "mcapi-report 1 serial\n", 3, "wrong 2 text\n"),
+    (&[], ONE_BUFFER, 2, USAGE),
+    (&["refused", "--refused"], ONE_BUFFER, 2, USAGE),
+    (&["text", "--domain"], ONE_BUFFER, 2, USAGE),
+    (&["text", "--domain", "8"], ONE_BUFFER, 2, USAGE),
+    (&["text", "--channel", "1"], ONE_BUFFER, 2, USAGE),
+    (&["text", "--lines", "1"], ONE_BUFFER, 2, USAGE),
+];
+
+#[test]
+fn forms_show_reports(rt: HostRuntime) -> Result<(), Fail> {
+    for (i, (words, text, status, written)) in OUTCOMES.iter().enumerate() {
+        assert!(rt;
+            comes_out(
+                rt.alloc(),
+                unfailing(*words, text.as_bytes()),
+                *status,
+                written.as_bytes()
+            )?,
+            "row {i}"
+        );
+    }
+    Ok(())
+}
+
+#[test]
+fn a_failing_stream_is_told(rt: HostRuntime) -> Result<(), Fail> {
+    let unread = Given {
+        failing_read: 0,
+        ..unfailing(&["text"], ONE_BUFFER.as_bytes())
+    };
+    assert!(rt; comes_out(rt.alloc(), unread, 4, b"")?);
+    let unwritten = Given {
+        failing_write: 0,
+        ..unfailing(&["text"], ONE_BUFFER.as_bytes())
+    };
+    assert!(rt; comes_out(rt.alloc(), unwritten, 5, b"")?);
+    Ok(())
+}
+
+/// A text in which another byte stands at a place.
+fn changed(alloc: Global, text: &[u8], place: usize, byte: u8) -> Result<Vec<u8>, AllocError> {
+    let mut copy = Vec::from_slice(alloc, text)?;
+    if let Some(found) = copy.get_mut(place) {
+        *found = byte;
+    }
+    Ok(copy)
+}
+
+/// Whether words end with one of their own statuses at a text.
+fn is_read(alloc: Global, words: &[&str], text: &[u8]) -> Result<bool, AllocError> {
+    let (status, output) = outcome_of(alloc, unfailing(words, text))?;
+    Ok(match status {
+        0 | 1 => output.written().is_empty() || output.written().ends_with(b"\n"),
+        3 => output.written().starts_with(b"wrong ") && output.written().ends_with(b" text\n"),
+        _ => false,
+    })
+}
+
+/// One place of so many is changed.
+const STEP: usize = 7;
+
+/// Whether reports with another byte at a place are read, or have a wrong line.
+fn are_read(alloc: Global, text: &[u8], place: usize) -> Result<bool, AllocError> {
+    let digit = changed(alloc, text, place, b'9')?;
+    let newline = changed(alloc, text, place, b'\n')?;
+    Ok(
+        is_read(alloc, &["text"], &digit)?
+            && is_read(alloc, &["refused"], &digit)?
+            && is_read(alloc, &["text"], &newline)?,
+    )
+}
+
+#[test]
+fn changed_reports_are_read_or_wrong(rt: HostRuntime) -> Result<(), Fail> {
+    for text in [ONE_BUFFER.as_bytes(), WAIT.as_bytes()] {
+        for place in 0..text.len() {
+            if place % STEP == 0 {
+                assert!(rt; are_read(rt.alloc(), text, place)?, "{place}");
+            }
+        }
+    }
+    Ok(())
+}
