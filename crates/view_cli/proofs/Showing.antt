@@ -113,3 +113,7 @@ lists_after sink old new (Err x) domains calls done status w all is ok err few =
 pub few_done : (t : Bool) (n : ℕ) → n ≡ cond t 0 1 → (n ≤ 3) × (n ≢ 2)
 few_done true n e = (omega (arith, e), λ is. omega (arith, e, is))
 few_done false n e = (omega (arith, e), λ is. omega (arith, e, is))
+
+pub not_listed : {T E : Type 0} (written : Result T E) (status : ℕ) → OnOk written (status ≡ 3) → OnErr written (status ≡ 5) → status ≤ 1 → ⊥
+not_listed (Ok x) status ok err few = omega (arith, ok, few)
+not_listed (Err x) status ok err few = omega (arith, err, few)

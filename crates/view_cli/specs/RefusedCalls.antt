@@ -1,11 +1,16 @@
 -- The calls of a report that were refused: where they stand, and what is written of them.
 -- Source: docs/FORMATS.md, "Journal text".
-use Rattle.std.specs.Prelude.{◌≡◌, ℕ, true, List, [], ◌∷◌, ◌++◌, map, length, codes, decimal, ◌==◌, if◌then◌else◌}
+use Rattle.std.specs.Prelude.{◌≡◌, ℕ, true, List, [], ◌∷◌, ◌++◌, map, length, codes, decimal, ◌==◌, if◌then◌else◌, string_bytes, String, Option, Ok}
+use Rattle.std.specs.Global.{Global}
+use Rattle.std.specs.Io.KnownBytes.{Appends}
 use Rattle.std.specs.List.{flat_map}
 use Rattle.report_text.specs.declared.outline.Outline.{Outline}
 use Rattle.report_text.specs.declared.outline.Outline.TheVariants.{Call}
 use Rattle.report_text.specs.Texts.{lines_told}
+use Rattle.report_text.specs.TextPass.{told_by_text}
+use Rattle.report_text.specs.TextRead.{told_of}
 use Rattle.report_view.specs.declared.view.DomainView.{DomainView}
+use Rattle.report_view.specs.declared.view.View.{View}
 use Rattle.view_cli.specs.declared.refused.RefusedCall.{RefusedCall}
 
 -- a call, by its domain and by the number of its line in the script of that
@@ -41,3 +46,15 @@ pub record ListsRefused (domains : List DomainView) (status : ℕ) (text : List 
   pub all : map place_of calls ≡ flat_map refused_of domains
   pub status_is : status ≡ (if length calls == 0 then 0 else 1)
   pub text_is : text ≡ flat_map refused_line calls
+
+-- the report was read, and the list of its calls that were refused was written
+pub record ShowsRefused (report : List ℕ) (status : ℕ) (old new : Option (List ℕ)) : Type 0 where
+  pub view : View
+  pub told : told_by_text report ≡ Ok (told_of view.told)
+  pub text : List ℕ
+  pub lists : ListsRefused view.domains.items status text
+  pub written : Appends old new text
+
+-- the words ask for that
+abbrev pub asks_refused : List (String Global) → Type 0
+asks_refused words = map (λ w. string_bytes w) words ≡ codes "refused" ∷ []

@@ -1,6 +1,9 @@
-ghost use Rattle.std.specs.Prelude.{◌≡◌, ◌<◌, length};
+ghost use Rattle.std.specs.Prelude.{◌≡◌, ◌<◌, ◌≤◌, ℕ, IfSome, List, length};
+ghost use Rattle.std.specs.Io.KnownBytes.{Appends};
 ghost use Rattle.report_view.specs.Texts.{PutsText, WritesText};
+ghost use Rattle.view_cli.specs.RefusedCalls.{ListsRefused, ShowsRefused, asks_refused};
 ghost use Rattle.view_cli.specs.Statuses.{Ends, Shows};
+ghost use Rattle.view_cli.specs.declared.form.Form.TheVariants.{Refused};
 
 use crate::form::{Form, form_of};
 use crate::refused::tell_refused;
@@ -33,7 +36,8 @@ pub fn mcview<S: Source, K: Sink>(
     input: &mut S,
     output: &mut K,
 ) -> u8
-    ensures { Ends S.Source K.Sink result input.old input.new output.old output.new }
+    ensures ends { Ends S.Source K.Sink result input.old input.new output.old output.new }
+    ensures refused { asks_refused words.now → result ≤ 1 → IfSome (S.rest input.old) (λ report. ShowsRefused report result (K.written output.old) (K.written output.new)) }
 {
     match form_of(words) {
         Some(form) => with_input(alloc, form, input, output),
@@ -43,7 +47,8 @@ pub fn mcview<S: Source, K: Sink>(
 
 /// Reads a report, and shows it. Returns the status.
 fn with_input<S: Source, K: Sink>(alloc: Global, form: Form, input: &mut S, output: &mut K) -> u8
-    ensures { Ends S.Source K.Sink result input.old input.new output.old output.new }
+    ensures ends { Ends S.Source K.Sink result input.old input.new output.old output.new }
+    ensures refused { form ≡ Refused → result ≤ 1 → IfSome (S.rest input.old) (λ report. ShowsRefused report result (K.written output.old) (K.written output.new)) }
 {
     match read_all(alloc, input, REPORT_LIMIT) {
         Ok(report) => with_report(alloc, form, &report, output),
@@ -56,7 +61,8 @@ fn with_input<S: Source, K: Sink>(alloc: Global, form: Form, input: &mut S, outp
 /// Shows a report, or writes its first wrong line. Returns the status.
 fn with_report<K: Sink>(alloc: Global, form: Form, report: &[u8], output: &mut K) -> u8
     requires { length report.now < 4_294_967_295 }
-    ensures { Shows K.Sink result output.old output.new }
+    ensures shows { Shows K.Sink result output.old output.new }
+    ensures refused { form ≡ Refused → result ≤ 1 → ShowsRefused report.now result (K.written output.old) (K.written output.new) }
 {
     match read_view(alloc, report) {
         Ok(view) => show(alloc, form, &view, output),
@@ -67,7 +73,8 @@ fn with_report<K: Sink>(alloc: Global, form: Form, report: &[u8], output: &mut K
 
 /// Shows what a report says. Returns the status.
 fn show<K: Sink>(alloc: Global, form: Form, view: &View<'_>, output: &mut K) -> u8
-    ensures { Shows K.Sink result output.old output.new }
+    ensures shows { Shows K.Sink result output.old output.new }
+    ensures refused { form ≡ Refused → result ≤ 3 → (text : List ℕ) × ListsRefused view.now.domains.items result text × Appends (K.written output.old) (K.written output.new) text }
 {
     match form {
         Form::Refused => tell_refused(alloc, view, output),
