@@ -1,2 +1,3 @@
 pub mod TextSteps
 pub mod RoomLemmas
+pub mod JournalsFound

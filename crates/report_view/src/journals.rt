@@ -1,7 +1,11 @@
 //! The journals of a report, one behind the other.
 
-ghost use Rattle.std.specs.Prelude.{◌≤◌, IfSome, length};
-ghost use Rattle.report_text.specs.Texts.{longest_line as length_of_longest};
+ghost use Rattle.std.specs.Prelude.{◌≡◌, ◌≤◌, ◌++◌, ◌∷◌, [], ℕ, IfOk, OnOk, drop, length, map};
+ghost use Rattle.report_text.specs.JournalRead.{journals_at};
+ghost use Rattle.report_text.specs.ScenarioPart.{rest as rest_at};
+ghost use Rattle.report_text.specs.TextLines.{lines_in};
+ghost use Rattle.report_text.specs.Texts.{lines_behind, longest_line as length_of_longest};
+ghost use Rattle.report_view.specs.Journals.{in_report, in_view};
 
 use board_model::DomainLine;
 use mc_base::NoMemory;
@@ -11,7 +15,8 @@ use std::alloc::Global;
 /// Counts the lines of the journal at the front of a text, and returns the text behind them.
 fn pass_journal<'a>(text: &'a [u8], room: &mut [u8]) -> (u32, &'a [u8])
     requires { length_of_longest text.now ≤ length room.old }
-    ensures { length_of_longest result.1.now ≤ length_of_longest text.now }
+    ensures fits { length_of_longest result.1.now ≤ length_of_longest text.now }
+    ensures behind { lines_in result.1.now ≡ lines_behind text.now }
 {
     let mut lines: u32 = 0;
     let mut rest = text;
@@ -23,13 +28,24 @@ fn pass_journal<'a>(text: &'a [u8], room: &mut [u8]) -> (u32, &'a [u8])
 }
 
 /// Passes over the line that heads a journal.
-fn behind_heading(text: &[u8]) -> Option<&[u8]>
-    ensures { IfSome result (λ rest. length_of_longest rest.now ≤ length_of_longest text.now) }
+fn behind_heading(text: &[u8]) -> &[u8]
+    ensures fits { length_of_longest result.now ≤ length_of_longest text.now }
+    ensures lines { lines_in result.now ≡ drop 1 (lines_in text.now) }
 {
     match cut(b'\n', text) {
-        Some((_, rest)) => Some(rest),
-        None => None,
+        Some((_, rest)) => rest,
+        None => &[],
     }
+}
+
+/// Adds a journal.
+fn add<'a>(journals: &mut Vec<JournalLines<'a>>, journal: JournalLines<'a>) -> Result<(), NoMemory>
+    ensures { OnOk result (journals.new.items ≡ journals.old.items ++ journal.entry ∷ []) }
+{
+    if journals.push(journal).is_err() {
+        return Err(NoMemory);
+    }
+    Ok(())
 }
 
 /// Adds the journals of these domains, which stand in a text that begins with the line of this number.
@@ -41,21 +57,18 @@ fn add_journals<'a>(
     room: &mut [u8],
 ) -> Result<(), NoMemory>
     requires { length_of_longest text.now ≤ length room.old }
+    ensures { OnOk result ((n : ℕ) → map in_view journals.new.items ≡ map in_view journals.old.items ++ map in_report (journals_at domains.now (rest_at n (lines_in text.now)))) }
 {
     let [line, others @ ..] = domains else {
         return Ok(());
     };
-    let Some(entries) = behind_heading(text) else {
-        return Ok(());
-    };
+    let entries = behind_heading(text);
     let journal = JournalLines {
         domain: line.domain,
         number: number.saturating_add(1),
         text: entries,
     };
-    if journals.push(journal).is_err() {
-        return Err(NoMemory);
-    }
+    add(journals, journal)?;
     let (lines, behind) = pass_journal(entries, room);
     let next = journal.number.saturating_add(lines);
     add_journals(journals, others, next, behind, room)
@@ -67,7 +80,9 @@ pub fn journals_of<'a>(
     domains: &[DomainLine],
     number: u32,
     text: &'a [u8],
-) -> Result<Vec<JournalLines<'a>>, NoMemory> {
+) -> Result<Vec<JournalLines<'a>>, NoMemory>
+    ensures { IfOk result (λ journals. (n : ℕ) → map in_view journals.items ≡ map in_report (journals_at domains.now (rest_at n (lines_in text.now)))) }
+{
     let Ok(mut room) = vec![in alloc; 0u8; longest_line(text)] else {
         return Err(NoMemory);
     };

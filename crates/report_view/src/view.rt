@@ -1,8 +1,9 @@
 //! What a report says, to be shown.
 
-ghost use Rattle.std.specs.Prelude.{◌≡◌, ◌<◌, Err, IfOk, Ok, length};
+ghost use Rattle.std.specs.Prelude.{◌≡◌, ◌<◌, ◌++◌, ◌∷◌, [], Err, IfOk, Ok, OnOk, length, map};
 ghost use Rattle.report_text.specs.TextPass.{told_by_text};
 ghost use Rattle.report_text.specs.TextRead.{IfWrong, told_of};
+ghost use Rattle.report_view.specs.Journals.{in_report, in_view, journal_of, journals_told};
 
 use crate::journals::journals_of;
 use crate::script::{ScriptLine, script_of};
@@ -53,6 +54,7 @@ pub struct View<'a> {
 pub fn read_view(alloc: Global, report: &[u8]) -> Result<View<'_>, TextFault>
     requires { length report.now < 4_294_967_295 }
     ensures told { IfOk result (λ v. told_by_text report.now ≡ Ok (told_of v.told)) }
+    ensures journals { IfOk result (λ v. map in_view (map journal_of v.domains.items) ≡ map in_report (journals_told (told_of v.told))) }
     ensures wrong { IfWrong result (λ line. told_by_text report.now ≡ Err line) }
 {
     let told = read_text(alloc, report)?;
@@ -65,27 +67,44 @@ fn domain_views<'a>(
     alloc: Global,
     report: &'a [u8],
     told: &ReportText<'a>,
-) -> Result<Vec<DomainView<'a>>, NoMemory> {
+) -> Result<Vec<DomainView<'a>>, NoMemory>
+    ensures { IfOk result (λ domains. map in_view (map journal_of domains.items) ≡ map in_report (journals_told (told_of told.now))) }
+{
     let lines = rising_domains(alloc, told.scenario.domains.as_slice())?;
     let journals = journals_of(alloc, &lines, told.line, told.behind)?;
     let mut domains = Vec::new(alloc);
-    for journal in &journals {
-        add_domain(alloc, &mut domains, report, &told.scenario, *journal)?;
-    }
+    add_domains(alloc, &mut domains, report, &told.scenario, &journals)?;
     Ok(domains)
 }
 
 /// Adds the domain of a journal.
 fn add_domain<'a>(
-    alloc: Global,
     domains: &mut Vec<DomainView<'a>>,
-    report: &'a [u8],
-    scenario: &Scenario,
+    script: Vec<ScriptLine<'a>>,
     journal: JournalLines<'a>,
-) -> Result<(), NoMemory> {
-    let script = script_of(alloc, report, scenario, journal.domain)?;
+) -> Result<(), NoMemory>
+    ensures { OnOk result (map journal_of domains.new.items ≡ map journal_of domains.old.items ++ journal.entry ∷ []) }
+{
     if domains.push(DomainView { script, journal }).is_err() {
         return Err(NoMemory);
     }
     Ok(())
+}
+
+/// Adds the domains of these journals.
+fn add_domains<'a>(
+    alloc: Global,
+    domains: &mut Vec<DomainView<'a>>,
+    report: &'a [u8],
+    scenario: &Scenario,
+    journals: &[JournalLines<'a>],
+) -> Result<(), NoMemory>
+    ensures { OnOk result (map journal_of domains.new.items ≡ map journal_of domains.old.items ++ journals.now) }
+{
+    let [journal, others @ ..] = journals else {
+        return Ok(());
+    };
+    let script = script_of(alloc, report, scenario, journal.domain)?;
+    add_domain(domains, script, *journal)?;
+    add_domains(alloc, domains, report, scenario, others)
 }
