@@ -11,6 +11,7 @@ use Rattle.report_text.specs.TextPass.{told_by_text}
 use Rattle.report_text.specs.TextRead.{told_of}
 use Rattle.report_view.specs.declared.view.DomainView.{DomainView}
 use Rattle.report_view.specs.declared.view.View.{View}
+use Rattle.report_view.specs.Journals.{in_report, in_view, journal_of, journals_told}
 use Rattle.view_cli.specs.declared.refused.RefusedCall.{RefusedCall}
 
 -- a call, by its domain and by the number of its line in the script of that
@@ -47,10 +48,11 @@ pub record ListsRefused (domains : List DomainView) (status : ℕ) (text : List 
   pub status_is : status ≡ (if length calls == 0 then 0 else 1)
   pub text_is : text ≡ flat_map refused_line calls
 
--- the report was read, and the list of its calls that were refused was written
+-- the report was read, its journals are those of the view, and the list of their calls that were refused was written
 pub record ShowsRefused (report : List ℕ) (status : ℕ) (old new : Option (List ℕ)) : Type 0 where
   pub view : View
   pub told : told_by_text report ≡ Ok (told_of view.told)
+  pub journals : map in_view (map journal_of view.domains.items) ≡ map in_report (journals_told (told_of view.told))
   pub text : List ℕ
   pub lists : ListsRefused view.domains.items status text
   pub written : Appends old new text

@@ -15,4 +15,4 @@ returns-in-Err-Wrong-clause-refused g c = λ is few. absurd (not_listed c.write_
 pub returns-in-Ok-clause-refused : goal.returns-in-Ok-clause-refused
 returns-in-Ok-clause-refused g c = λ is few.
     let shown = c.show.ensures.refused is (omega (arith, few)) in
-    record { view = c.in-Ok.view; told = c.in-Ok.ensures.told; text = shown.0; lists = shown.1; written = shown.2 }
+    record { view = c.in-Ok.view; told = c.in-Ok.ensures.told; journals = c.in-Ok.ensures.journals; text = shown.0; lists = shown.1; written = shown.2 }
