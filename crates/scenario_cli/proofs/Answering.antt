@@ -4,12 +4,14 @@ use Rattle.std.specs.Prelude.{IfSome}
 use Rattle.std.specs.Io.KnownBytes.{Appends, Consumes, IsAtEnd}
 use Rattle.outer_io.specs.declared.sink.Sink.{Ghosts as SinkGhosts}
 use Rattle.outer_io.specs.declared.source.Source.{Ghosts as SourceGhosts}
+use Rattle.outer_io.specs.declared.source.ReadFault.{ReadFault}
+use Rattle.outer_io.specs.declared.source.ReadFault.TheVariants.{Failed, TooLong, NoMemory}
 use Rattle.outer_io.specs.Faults.{Rose}
 use Rattle.outer_io.specs.Calls.{CountsOne, ReadsStop}
 use Rattle.scenario_cli.specs.declared.form.Form.{Form}
 use Rattle.scenario_cli.specs.declared.form.Form.TheVariants.{Run, SerialRun, Check, Frame, Ring}
 use Rattle.scenario_cli.specs.Words.{IsOneOf, limit_of}
-use Rattle.scenario_cli.specs.Answers.{Sort, good, bad, other_sort, status_for, IsOfSort, IsAnswer, IsDue, Stops, Tells, OfInput, Answers, Ends}
+use Rattle.scenario_cli.specs.Answers.{Sort, good, bad, other_sort, status_for, status_after, IsOfSort, IsAnswer, IsDue, Stops, Tells, OfInput, Answers, Ends}
 use Rattle.scenario_cli.proofs.Inputs.{if_text}
 use Rattle.scenario_cli.proofs.Telling.{never-six}
 
@@ -78,6 +80,12 @@ none-of status four six seven (inl e) = four e
 none-of status four six seven (inr (inl e)) = six e
 none-of status four six seven (inr (inr (inl e))) = seven e
 none-of status four six seven (inr (inr (inr h))) = h
+
+too-long-differs : TooLong ≡ Failed → ⊥
+too-long-differs e = absurd cc
+
+memory-differs : NoMemory ≡ Failed → ⊥
+memory-differs e = absurd cc
 
 module _ {S K : Type 0} (source : SourceGhosts S) (sink : SinkGhosts K) (form : Form) where
   -- the input was read to its end, and this was done with it
@@ -200,3 +208,16 @@ module _ {S K : Type 0} (source : SourceGhosts S) (sink : SinkGhosts K) (form : 
         not-five (inr (inl e)) five = let no : 6 ≡ 5 = sym e ∙ five in omega (arith, no)
         not-five (inr (inr (inl e))) five = let no : 7 ≡ 5 = sym e ∙ five in omega (arith, no)
         not-five (inr (inr (inr h))) five = h
+
+-- ---- the reading ended with this fault
+
+module _ {S K : Type 0} (source : SourceGhosts S) (sink : SinkGhosts K) (form : Form) (input input' : S) (old : K) where
+  pub fault-answers : (fault : ReadFault) → (fault ≡ Failed → ReadsStop (source.rest input) (source.rest input') (source.calls input) (source.calls input') (limit_of form)) → (fault ≡ TooLong → IfSome (source.rest input) (λ t. limit_of form < length t)) → Answers source sink form (status_after fault) input input' old old
+  fault-answers Failed stop over = failed-answers source sink form input input' old (stop refl)
+  fault-answers TooLong stop over = long-answers source sink form input input' old (over refl)
+  fault-answers NoMemory stop over = memory-answers source sink form input input' old
+
+  pub fault-ends : (fault : ReadFault) → (fault ≡ Failed → Rose (source.faults input) (source.faults input')) → (source.never_fails input → fault ≡ Failed → ⊥) → ((fault ≡ Failed → ⊥) → source.faults input' ≡ source.faults input) → source.faults input ≤ source.faults input' → Ends source sink (status_after fault) input input' old old
+  fault-ends Failed rose sound quiet later = stopped-ends source sink form input input' old 4 (inl refl) (λ four. rose refl) (λ other. absurd (other refl)) (λ never four. sound never refl) later
+  fault-ends TooLong rose sound quiet later = stopped-ends source sink form input input' old 7 (inr (inr (inl refl))) (λ four. absurd (omega (arith, four))) (λ other. quiet too-long-differs) (λ never four. omega (arith, four)) later
+  fault-ends NoMemory rose sound quiet later = stopped-ends source sink form input input' old 6 (inr (inl refl)) (λ four. absurd (omega (arith, four))) (λ other. quiet memory-differs) (λ never four. omega (arith, four)) later

@@ -5,6 +5,7 @@ pub mod ModeForms
 pub mod Telling
 pub mod Answering
 pub mod FormWords
+pub mod FormClauses
 pub mod HexLemmas
 pub mod FaultPlaces
 pub mod FrameLines

@@ -1,5 +1,5 @@
 -- Words of a load: their number, and that they are no other form.
-use Rattle.std.proofs.Common.{◌≡◌, ℕ, ◌≤◌, List, [], ◌∷◌, ◌++◌, length, Option, Some, None, sym, ap, ap₂, ◌∙◌, arith, append_assoc}
+use Rattle.std.proofs.Common.{◌≡◌, inl, inr, ℕ, ◌≤◌, List, [], ◌∷◌, ◌++◌, length, Option, Some, None, sym, ap, ap₂, ◌∙◌, arith, append_assoc}
 use Rattle.std.specs.Prelude.{IfSome, codes, decimal, string_bytes, String}
 use Rattle.std.specs.Global.{Global}
 use Rattle.std.proofs.lemmas.List.{length-map}
@@ -43,7 +43,8 @@ one_load n m words this that =
 -- ---- the words
 
 two_words : (form : Form) (digits : List ℕ) (words : List (List ℕ)) → IsForm form words → words ≡ codes "load" ∷ digits ∷ [] → ⊥
-two_words Run digits words form told = let same = sym form ∙ told in cc
+two_words Run digits words (inl form) told = let same = sym form ∙ told in cc
+two_words Run digits words (inr form) told = let same = sym form ∙ told in cc
 two_words SerialRun digits words form told = let same = sym form ∙ told in cc
 two_words Check digits words form told = let same = sym form ∙ told in cc
 two_words Frame digits words form told = let same = sym form ∙ told in cc

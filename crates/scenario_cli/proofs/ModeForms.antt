@@ -2,10 +2,13 @@
 use Rattle.std.proofs.Common.{◌≡◌, ℕ, List, Ok, Err, refl, sym, ◌∙◌}
 use Rattle.std.specs.Prelude.{Result}
 use Rattle.board_model.specs.declared.scenario.Scenario.{Scenario}
-use Rattle.board_model.specs.Language.{RefusedLine, told_by}
+use Rattle.board_model.specs.Language.{RefusedLine, refused, told_by}
 use Rattle.board_model.specs.Report.{Mode, serial, threads}
+use Rattle.scenario_lang.specs.declared.fault.ScenarioFault.{ScenarioFault}
+use Rattle.scenario_lang.specs.declared.fault.ScenarioFault.TheVariants as scenario_fault
+use Rattle.scenario_lang.specs.Refused.{IfRefused}
 use Rattle.scenario_cli.specs.Words.{run_in}
-use Rattle.scenario_cli.specs.Due.{IsScenario, IsRefused, IsReport}
+use Rattle.scenario_cli.specs.Due.{IsScenario, IsRefused, IsFaultOf, IsReport}
 use Rattle.scenario_cli.specs.Answers.{good, bad, status_for, IsOfSort, IsRefusal, IsAnswer}
 
 pub refused-status : (mode : Mode) → status_for (run_in mode) bad ≡ 3
@@ -35,3 +38,8 @@ no-refusal threads text s is of = either (told_by text) s of.0 is of.1
 pub no-scenario : (mode : Mode) (text : List ℕ) (l : RefusedLine) → IsRefused text l → IsOfSort (run_in mode) good text → ⊥
 no-scenario serial text l is of = either (told_by text) of.0 l of.1 is
 no-scenario threads text l is of = either (told_by text) of.0 l of.1 is
+
+-- what a fault of reading says of the text
+pub fault-of : (text : List ℕ) (fault : ScenarioFault) → IfRefused {X = Scenario} (Err fault) (λ line reason. told_by text ≡ Err (refused line reason)) → IsFaultOf text fault
+fault-of text (scenario_fault.Refused line reason) is = is
+fault-of text scenario_fault.NoMemory is = tt

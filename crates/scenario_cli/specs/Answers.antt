@@ -7,6 +7,8 @@ use Rattle.outer_io.specs.Calls.{CountsOne, ReadsStop}
 use Rattle.outer_io.specs.Writes.{AppendsPart, WritesStop}
 use Rattle.outer_io.specs.declared.sink.Sink.{Ghosts as SinkGhosts}
 use Rattle.outer_io.specs.declared.source.Source.{Ghosts as SourceGhosts}
+use Rattle.outer_io.specs.declared.source.ReadFault.{ReadFault}
+use Rattle.outer_io.specs.declared.source.ReadFault.TheVariants as read_fault
 use Rattle.board_model.specs.declared.scenario.Scenario.{Scenario}
 use Rattle.board_model.specs.Language.{RefusedLine}
 use Rattle.board_model.specs.Report.{serial, threads}
@@ -40,6 +42,12 @@ status_for SerialRun bad = 3
 status_for Check bad = 1
 status_for Frame bad = 1
 status_for Ring bad = 1
+
+-- the status for an input that was not read to its end
+abbrev pub status_after : ReadFault → ℕ
+status_after read_fault.Failed = 4
+status_after read_fault.TooLong = 7
+status_after read_fault.NoMemory = 6
 
 -- ---- the sort of an input: a scenario or none, a report without a wrong line or with one, a sound frame or none, a sound image or none
 

@@ -4,7 +4,9 @@
 use Rattle.std.specs.Prelude.{◌≡◌, ℕ, ◌≤◌, List, [], length, Option, IfSome, Ok, Err}
 use Rattle.std.specs.Io.KnownBytes.{Appends}
 use Rattle.board_model.specs.declared.scenario.Scenario.{Scenario}
-use Rattle.board_model.specs.Language.{RefusedLine, told_by}
+use Rattle.board_model.specs.Language.{RefusedLine, refused, told_by}
+use Rattle.scenario_lang.specs.declared.fault.ScenarioFault.{ScenarioFault}
+use Rattle.scenario_lang.specs.declared.fault.ScenarioFault.TheVariants as scenario_fault
 use Rattle.board_model.specs.Board.{DomainJournal, IsBoardRun, AreWhole}
 use Rattle.board_model.specs.SerialRun.{serial_run}
 use Rattle.board_model.specs.Report.{Mode, serial, threads}
@@ -23,6 +25,11 @@ IsScenario text s = told_by text ≡ Ok s
 -- the text tells none, and is refused at this line with this reason
 abbrev pub IsRefused : List ℕ → RefusedLine → Type 0
 IsRefused text r = told_by text ≡ Err r
+
+-- a fault of reading says of the text the line that is refused. Want of memory says nothing of it
+abbrev pub IsFaultOf : List ℕ → ScenarioFault → Type 0
+IsFaultOf text (scenario_fault.Refused line reason) = IsRefused text (refused line reason)
+IsFaultOf text scenario_fault.NoMemory = Unit {0}
 
 -- the journals are a whole run of the board, and the headline holds of them
 pub record IsSound (s : Scenario) (js : List DomainJournal) : Type 0 where

@@ -19,7 +19,13 @@ form_words Check = codes "check" ∷ []
 form_words Frame = codes "frame" ∷ []
 form_words Ring = codes "ring" ∷ []
 
+-- the words of a run on threads whose domains sleep where they wait without end
+abbrev pub IsBellRun : List (List ℕ) → Type 0
+IsBellRun words = words ≡ codes "run" ∷ codes "--bells" ∷ []
+
+-- the words are those of a form. Of `run --bells` the same is promised as of `run`, so both are the form Run
 abbrev pub IsForm : Form → List (List ℕ) → Type 0
+IsForm Run words = (words ≡ form_words Run) ⊎ IsBellRun words
 IsForm form words = words ≡ form_words form
 
 -- the form of a run in this mode
@@ -46,7 +52,7 @@ pub record IsNoForm (words : List (List ℕ)) : Type 0 where
 
 -- what is written where the words are none of the forms
 abbrev pub usage_text : List ℕ
-usage_text = codes "usage: mcrun run | run --serial | check | frame | ring | load N\n"
+usage_text = codes "usage: mcrun run | run --serial | check | frame | ring | load N | run --bells\n"
 
 -- the most bytes of an input: of a scenario, of the text of a frame and of an image, and of a report
 abbrev pub input_limit : ℕ

@@ -1,7 +1,7 @@
 //! The forms of the program.
 
-ghost use Rattle.std.specs.Prelude.{◌≡◌, ◌≤◌, ◌∷◌, [], ℕ, IfSome, IsNone, decimal, string_bytes};
-ghost use Rattle.scenario_cli.specs.Words.{words_of, IsForm, IsNoInputForm, IsNoLoad, limit_of};
+ghost use Rattle.std.specs.Prelude.{◌≡◌, ◌≤◌, ◌∷◌, [], ℕ, IfSome, IsNone, MatchBool, decimal, string_bytes};
+ghost use Rattle.scenario_cli.specs.Words.{words_of, IsForm, IsBellRun, IsNoInputForm, IsNoLoad, limit_of};
 ghost use Rattle.board_model.specs.LoadBoard.{load_limit};
 ghost use Rattle.scenario_cli.specs.LoadText.{IsLoad};
 
@@ -19,7 +19,7 @@ const MOST_PACKETS: u64 = 100_000;
 /// What the program is to do with the input, as its words say.
 #[derive(Clone, Copy)]
 pub enum Form {
-    /// `run`: a scenario in, the report of its run on threads out.
+    /// `run` or `run --bells`: a scenario in, the report of its run on threads out.
     Run,
     /// `run --serial`: a scenario in, the report of its serial run out.
     SerialRun,
@@ -82,8 +82,30 @@ fn packets_of(word: &[u8]) -> Option<u32>
     Some(packets as u32)
 }
 
-/// The form with an input that the words are, or `None` where they are none.
+/// Returns whether the words are `run --bells`.
+pub fn is_bell_run(words: &[String]) -> bool
+    ensures { MatchBool result (IsBellRun (words_of words.now)) (IsBellRun (words_of words.now) → ⊥) }
+{
+    match words {
+        [first, second] => are_bell_run(first, second),
+        _ => false,
+    }
+}
+
+/// Returns whether two words are `run --bells`.
+fn are_bell_run(first: &String, second: &String) -> bool
+    ensures { MatchBool result (IsBellRun (string_bytes first.now ∷ string_bytes second.now ∷ []))
+        (IsBellRun (string_bytes first.now ∷ string_bytes second.now ∷ []) → ⊥) }
+{
+    if first.as_str() != "run" {
+        return false;
+    }
+    second.as_str() == "--bells"
+}
+
+/// The form with an input that words other than `run --bells` are, or `None` where they are none.
 pub fn form_of(words: &[String]) -> Option<Form>
+    requires { IsBellRun (words_of words.now) → ⊥ }
     ensures form { IfSome result (λ form. IsForm form (words_of words.now)) }
     ensures none { IsNone result → IsNoInputForm (words_of words.now) }
 {
@@ -112,8 +134,9 @@ fn word_form(word: &String) -> Option<Form>
     }
 }
 
-/// The form of two words.
+/// The form of two words other than `run --bells`.
 fn run_form(first: &String, second: &String) -> Option<Form>
+    requires { IsBellRun (string_bytes first.now ∷ string_bytes second.now ∷ []) → ⊥ }
     ensures form { IfSome result (λ form. IsForm form (string_bytes first.now ∷ string_bytes second.now ∷ [])) }
     ensures none { IsNone result → IsNoInputForm (string_bytes first.now ∷ string_bytes second.now ∷ []) }
 {

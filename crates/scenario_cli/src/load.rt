@@ -20,7 +20,8 @@ use scenario_lang::load_scenario;
 use std::alloc::Global;
 
 /// What is written where the words are none of the forms.
-const USAGE: &[u8] = b"usage: mcrun run | run --serial | check | frame | ring | load N\n";
+const USAGE: &[u8] =
+    b"usage: mcrun run | run --serial | check | frame | ring | load N | run --bells\n";
 
 /// Does what words say that are of no form with an input: runs a load board, or writes the usage. Returns the status.
 pub fn without_input<K: Sink>(alloc: Global, words: &[String], output: &mut K) -> u8

@@ -1,8 +1,9 @@
 //! The statuses that the program ends with.
 
 ghost use Rattle.std.specs.Prelude.{◌≡◌, OnOk, OnErr};
+ghost use Rattle.scenario_cli.specs.Answers.{status_after};
 
-use outer_io::Failed;
+use outer_io::{Failed, ReadFault};
 
 /// The input was read to its end, and the output is written whole.
 pub const DONE: u8 = 0;
@@ -36,5 +37,16 @@ pub fn after_write(written: Result<(), Failed>, status: u8) -> u8
     match written {
         Ok(()) => status,
         Err(Failed) => WRITE_FAILED,
+    }
+}
+
+/// Returns the status of a reading that did not come to its end.
+pub fn after_read(fault: ReadFault) -> u8
+    ensures { result ≡ status_after fault }
+{
+    match fault {
+        ReadFault::Failed => READ_FAILED,
+        ReadFault::TooLong => TOO_LONG,
+        ReadFault::NoMemory => NO_MEMORY,
     }
 }

@@ -1,30 +1,31 @@
 ghost use Rattle.std.specs.Prelude.{◌≡◌, ◌≤◌, ◌∷◌, [], ℕ, length};
 ghost use Rattle.board_model.specs.Report.{Mode};
 ghost use Rattle.scenario_cli.specs.declared.form.Form.TheVariants.{Run, SerialRun, Check, Frame, Ring};
-ghost use Rattle.scenario_cli.specs.Words.{words_of, IsForm, run_in, IsNoForm, IsOneOfForms, usage_text, IsOneOf, limit_of};
+ghost use Rattle.scenario_cli.specs.Words.{words_of, IsForm, IsBellRun, run_in, IsNoForm, IsOneOfForms, usage_text, IsOneOf, limit_of};
 ghost use Rattle.scenario_cli.specs.LoadText.{IsLoad, load_report};
 ghost use Rattle.scenario_cli.specs.Due.{Reports};
 ghost use Rattle.scenario_cli.specs.Answers.{Tells, Answers, Ends, Writes, WritesAtOnce, IfReportOfRun};
 
-use crate::form::{Form, form_of};
+use crate::form::{Form, form_of, is_bell_run};
 use crate::frame::tell_frame;
 use crate::image::tell_image;
 use crate::load::without_input;
 use crate::report::tell_report;
-use crate::run::run_text;
-use crate::status;
-use outer_io::{ReadFault, Sink, Source, read_all};
+use crate::run::{run_text, run_text_with_bells};
+use crate::status::after_read;
+use outer_io::{Sink, Source, read_all};
 use std::alloc::Global;
+use std::sync::Wait;
 use std::thread::Threads;
 
 /// Does what the words say, writes the output, and returns the status to end with.
 ///
-/// The form `run` reads a scenario, runs its domains on threads and writes the report of that run. The form `run --serial` does so
-/// with the serial run, on one thread. The form `check` reads a report and writes whether it is that of a whole run of its board, or its
-/// first wrong line and why it is wrong. The form `frame` reads the hexadecimal text of a frame and writes what the frame says, or its
-/// first fault and the place of it. The form `ring` reads the image of a ring, as its bytes, and writes its size, its queue and its two
-/// indices, or its first fault and the place of it. The form `load N` reads nothing: it runs the load board of N packets, from 1 to
-/// 100,000, serially, and writes what became of its packets.
+/// The form `run` reads a scenario, runs its domains on threads and writes the report of that run. The form `run --bells` does the same
+/// with domains that sleep where they wait without end, and `run --serial` with the serial run, on one thread. The form `check` reads
+/// a report and writes whether it is that of a whole run of its board, or its first wrong line and why it is wrong. The form `frame`
+/// reads the hexadecimal text of a frame and writes what the frame says, or its first fault and the place of it. The form `ring` reads
+/// the image of a ring, as its bytes, and writes its size, its queue and its two indices, or its first fault and the place of it. The
+/// form `load N` reads nothing: it runs the load board of N packets, from 1 to 100,000, serially, and writes what became of its packets.
 ///
 /// The statuses are 0 where the report was written, the report read is right, or the frame or image is sound, 1 where the input is not
 /// a right report, a sound frame or a sound image, 2 where the words are none of the forms and the usage was written, 3 where the input
@@ -32,8 +33,8 @@ use std::thread::Threads;
 /// where the input has more than 8,388,608 bytes, or for `check` more than 268,435,456. Words come first, then reading, the grammar,
 /// the report, the frame or the image, running, and writing.
 ///
-/// The form `run` joins threads, so nothing is promised of whether it returns.
-pub fn mcrun<T: Threads + Sync, S: Source, K: Sink>(
+/// The forms `run` and `run --bells` join threads, and `run --bells` waits, so nothing is promised of whether they return.
+pub fn mcrun<T: Threads + Wait + Sync, S: Source, K: Sink>(
     rt: &T,
     alloc: Global,
     words: &[String],
@@ -43,7 +44,8 @@ pub fn mcrun<T: Threads + Sync, S: Source, K: Sink>(
     // Of any words: the statuses that there are; 4 and 5 exactly where a read or a write failed in this call; nothing is written at 4, 6 and 7.
     ensures ends { Ends S.Source K.Sink result input.old input.new output.old output.new }
 
-    // A run that ends with 0: the report of journals that are a whole run of the board that was read, and of which the headline holds.
+    // A run that ends with 0 (the mode `threads` is that of `run` and of `run --bells`): the report of journals that are a whole run of the
+    // board that was read, and of which the headline holds.
     ensures headline { (mode : Mode) → IsForm (run_in mode) (words_of words.now) → result ≡ 0 → Reports mode (S.rest input.old) (K.written output.old) (K.written output.new) }
 
     // A form with an input: which status comes for which input, what is written then, and how it ends where a read or a write fails.
@@ -60,6 +62,34 @@ pub fn mcrun<T: Threads + Sync, S: Source, K: Sink>(
     ensures usage_reads_nothing { IsNoForm (words_of words.now) → input.new ≡ input.old }
 
     // 1, 2 and 3 come with these words alone.
+    ensures wrong_words { result ≡ 1 → IsOneOfForms (Check ∷ Frame ∷ Ring ∷ []) (words_of words.now) }
+    ensures usage_words { result ≡ 2 → IsNoForm (words_of words.now) }
+    ensures refused_words { result ≡ 3 → IsOneOfForms (Run ∷ SerialRun ∷ []) (words_of words.now) }
+{
+    if is_bell_run(words) {
+        with_bells(rt, alloc, input, output)
+    } else {
+        without_bells(rt, alloc, words, input, output)
+    }
+}
+
+/// Does what the words of any form but `run --bells` say. Its bound has no `Wait`: it returns where the threads of `run` do.
+fn without_bells<T: Threads + Sync, S: Source, K: Sink>(
+    rt: &T,
+    alloc: Global,
+    words: &[String],
+    input: &mut S,
+    output: &mut K,
+) -> u8
+    requires { IsBellRun (words_of words.now) → ⊥ }
+    ensures ends { Ends S.Source K.Sink result input.old input.new output.old output.new }
+    ensures headline { (mode : Mode) → IsForm (run_in mode) (words_of words.now) → result ≡ 0 → Reports mode (S.rest input.old) (K.written output.old) (K.written output.new) }
+    ensures form { (form : Form) → IsForm form (words_of words.now) → Answers S.Source K.Sink form result input.old input.new output.old output.new }
+    ensures report_of_run { IsForm Check (words_of words.now) → IfReportOfRun (S.rest input.old) (IsOneOf (0 ∷ 4 ∷ 5 ∷ 6 ∷ []) result) }
+    ensures load { (packets : ℕ) → IsLoad packets (words_of words.now) → Writes K.Sink (load_report packets) 0 result output.old output.new }
+    ensures load_reads_nothing { (packets : ℕ) → IsLoad packets (words_of words.now) → input.new ≡ input.old }
+    ensures usage { IsNoForm (words_of words.now) → WritesAtOnce K.Sink usage_text 2 result output.old output.new }
+    ensures usage_reads_nothing { IsNoForm (words_of words.now) → input.new ≡ input.old }
     ensures wrong_words { result ≡ 1 → IsOneOfForms (Check ∷ Frame ∷ Ring ∷ []) (words_of words.now) }
     ensures usage_words { result ≡ 2 → IsNoForm (words_of words.now) }
     ensures refused_words { result ≡ 3 → IsOneOfForms (Run ∷ SerialRun ∷ []) (words_of words.now) }
@@ -83,9 +113,23 @@ fn with_input<T: Threads + Sync, S: Source, K: Sink>(
 {
     match read_all(alloc, input, form.limit()) {
         Ok(text) => with_text(rt, alloc, form, &text, output),
-        Err(ReadFault::Failed) => status::READ_FAILED,
-        Err(ReadFault::TooLong) => status::TOO_LONG,
-        Err(ReadFault::NoMemory) => status::NO_MEMORY,
+        Err(fault) => after_read(fault),
+    }
+}
+
+/// Reads a scenario and runs it on threads that sleep where they wait without end. Returns the status.
+fn with_bells<T: Threads + Wait + Sync, S: Source, K: Sink>(
+    rt: &T,
+    alloc: Global,
+    input: &mut S,
+    output: &mut K,
+) -> u8
+    ensures answers { Answers S.Source K.Sink Run result input.old input.new output.old output.new }
+    ensures ends { Ends S.Source K.Sink result input.old input.new output.old output.new }
+{
+    match read_all(alloc, input, Form::Run.limit()) {
+        Ok(text) => run_text_with_bells(rt, alloc, &text, output),
+        Err(ended) => after_read(ended),
     }
 }
 

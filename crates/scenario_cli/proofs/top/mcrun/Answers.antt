@@ -1,81 +1,37 @@
-use Rattle.std.proofs.Common.{◌≡◌, refl, arith, subst}
-use Rattle.scenario_cli.specs.declared.form.Form.TheVariants.{Check}
-use Rattle.scenario_cli.specs.Words.{run_in}
-use Rattle.scenario_cli.specs.Answers.{good, Answers}
-use Rattle.scenario_cli.proofs.WordLemmas.{one_form}
-use Rattle.scenario_cli.proofs.LoadWords.{form_no_load, form_no_usage}
-use Rattle.scenario_cli.proofs.FormWords.{wrong-form, refused-form, no-usage-form, reports, of-run, unread-not, unread-ends}
+use Rattle.std.proofs.Common.{◌≡◌, inr}
+use Rattle.scenario_cli.specs.Words.{words_of}
+use Rattle.scenario_cli.proofs.FormClauses.{form-of, headline-of, right-of, no-load-of, no-usage-of, wrong-of, usage-of, refused-of}
 use Rattle.scenario_cli.proofs.top.mcrun.Goals as goal
 
--- ---- a form with an input
+pub returns-then-is_bell_run-clause-ends : goal.returns-then-is_bell_run-clause-ends
+returns-then-is_bell_run-clause-ends g c = c.with_bells.ensures.ends
 
-pub returns-in-Some-clause-ends : goal.returns-in-Some-clause-ends
-returns-in-Some-clause-ends g c = c.with_input.ensures.ends
+pub returns-then-is_bell_run-clause-headline : goal.returns-then-is_bell_run-clause-headline
+returns-then-is_bell_run-clause-headline g c = headline-of (words_of c.args.words.now) (inr (rw c.if-is_bell_run.true at c.is_bell_run.ensures)) c.with_bells.ensures.answers
 
-pub returns-in-Some-clause-headline : goal.returns-in-Some-clause-headline
-returns-in-Some-clause-headline g c = λ mode form is.
-    let same : c.in-Some.form ≡ run_in mode = one_form c.in-Some.form (run_in mode) _ c.in-Some.ensures.form form in
-    let answers = subst (λ f. Answers g.S.Source g.K.Sink f c.with_input.result c.args.input.now c.with_input.new.input c.args.output.now c.with_input.new.output) same c.with_input.ensures.answers in
-    reports mode _ _ _ (answers.whole good is)
+pub returns-then-is_bell_run-clause-form : goal.returns-then-is_bell_run-clause-form
+returns-then-is_bell_run-clause-form g c = form-of (words_of c.args.words.now) (inr (rw c.if-is_bell_run.true at c.is_bell_run.ensures)) c.with_bells.ensures.answers
 
-pub returns-in-Some-clause-form : goal.returns-in-Some-clause-form
-returns-in-Some-clause-form g c = λ form is.
-    subst (λ f. Answers g.S.Source g.K.Sink f c.with_input.result c.args.input.now c.with_input.new.input c.args.output.now c.with_input.new.output) (one_form c.in-Some.form form _ c.in-Some.ensures.form is) c.with_input.ensures.answers
+pub returns-then-is_bell_run-clause-report_of_run : goal.returns-then-is_bell_run-clause-report_of_run
+returns-then-is_bell_run-clause-report_of_run g c = right-of (words_of c.args.words.now) (inr (rw c.if-is_bell_run.true at c.is_bell_run.ensures)) c.with_bells.ensures.answers
 
-pub returns-in-Some-clause-report_of_run : goal.returns-in-Some-clause-report_of_run
-returns-in-Some-clause-report_of_run g c = λ is.
-    let answers = subst (λ f. Answers g.S.Source g.K.Sink f c.with_input.result c.args.input.now c.with_input.new.input c.args.output.now c.with_input.new.output) (one_form c.in-Some.form Check _ c.in-Some.ensures.form is) c.with_input.ensures.answers in
-    of-run _ _ (answers.exact good)
+pub returns-then-is_bell_run-clause-load : goal.returns-then-is_bell_run-clause-load
+returns-then-is_bell_run-clause-load g c = λ packets load. no-load-of (words_of c.args.words.now) (inr (rw c.if-is_bell_run.true at c.is_bell_run.ensures)) c.with_bells.ensures.answers _ packets load
 
-pub returns-in-Some-clause-load : goal.returns-in-Some-clause-load
-returns-in-Some-clause-load g c = λ packets is. absurd (form_no_load c.in-Some.form packets _ c.in-Some.ensures.form is)
+pub returns-then-is_bell_run-clause-load_reads_nothing : goal.returns-then-is_bell_run-clause-load_reads_nothing
+returns-then-is_bell_run-clause-load_reads_nothing g c = λ packets load. no-load-of (words_of c.args.words.now) (inr (rw c.if-is_bell_run.true at c.is_bell_run.ensures)) c.with_bells.ensures.answers _ packets load
 
-pub returns-in-Some-clause-load_reads_nothing : goal.returns-in-Some-clause-load_reads_nothing
-returns-in-Some-clause-load_reads_nothing g c = λ packets is. absurd (form_no_load c.in-Some.form packets _ c.in-Some.ensures.form is)
+pub returns-then-is_bell_run-clause-usage : goal.returns-then-is_bell_run-clause-usage
+returns-then-is_bell_run-clause-usage g c = λ none. no-usage-of (words_of c.args.words.now) (inr (rw c.if-is_bell_run.true at c.is_bell_run.ensures)) c.with_bells.ensures.answers _ none
 
-pub returns-in-Some-clause-usage : goal.returns-in-Some-clause-usage
-returns-in-Some-clause-usage g c = λ none. absurd (form_no_usage c.in-Some.form _ c.in-Some.ensures.form none)
+pub returns-then-is_bell_run-clause-usage_reads_nothing : goal.returns-then-is_bell_run-clause-usage_reads_nothing
+returns-then-is_bell_run-clause-usage_reads_nothing g c = λ none. no-usage-of (words_of c.args.words.now) (inr (rw c.if-is_bell_run.true at c.is_bell_run.ensures)) c.with_bells.ensures.answers _ none
 
-pub returns-in-Some-clause-usage_reads_nothing : goal.returns-in-Some-clause-usage_reads_nothing
-returns-in-Some-clause-usage_reads_nothing g c = λ none. absurd (form_no_usage c.in-Some.form _ c.in-Some.ensures.form none)
+pub returns-then-is_bell_run-clause-wrong_words : goal.returns-then-is_bell_run-clause-wrong_words
+returns-then-is_bell_run-clause-wrong_words g c = wrong-of (words_of c.args.words.now) (inr (rw c.if-is_bell_run.true at c.is_bell_run.ensures)) c.with_bells.ensures.answers
 
-pub returns-in-Some-clause-wrong_words : goal.returns-in-Some-clause-wrong_words
-returns-in-Some-clause-wrong_words g c = λ is. wrong-form c.in-Some.form _ c.with_input.result c.in-Some.ensures.form c.with_input.ensures.answers.statuses is
+pub returns-then-is_bell_run-clause-usage_words : goal.returns-then-is_bell_run-clause-usage_words
+returns-then-is_bell_run-clause-usage_words g c = usage-of (words_of c.args.words.now) (inr (rw c.if-is_bell_run.true at c.is_bell_run.ensures)) c.with_bells.ensures.answers
 
-pub returns-in-Some-clause-usage_words : goal.returns-in-Some-clause-usage_words
-returns-in-Some-clause-usage_words g c = λ is. absurd (no-usage-form c.in-Some.form c.with_input.result c.with_input.ensures.answers.statuses is)
-
-pub returns-in-Some-clause-refused_words : goal.returns-in-Some-clause-refused_words
-returns-in-Some-clause-refused_words g c = λ is. refused-form c.in-Some.form _ c.with_input.result c.in-Some.ensures.form c.with_input.ensures.answers.statuses is
-
--- ---- other words
-
-pub returns-in-None-clause-ends : goal.returns-in-None-clause-ends
-returns-in-None-clause-ends g c = unread-ends g.S.Source g.K.Sink c.without_input.result c.args.input.now c.args.output.now c.without_input.new.output c.without_input.ensures.unread
-
-pub returns-in-None-clause-headline : goal.returns-in-None-clause-headline
-returns-in-None-clause-headline g c = λ mode form. absurd (c.in-None.ensures.none refl (run_in mode) form)
-
-pub returns-in-None-clause-form : goal.returns-in-None-clause-form
-returns-in-None-clause-form g c = λ form is. absurd (c.in-None.ensures.none refl form is)
-
-pub returns-in-None-clause-report_of_run : goal.returns-in-None-clause-report_of_run
-returns-in-None-clause-report_of_run g c = λ is. absurd (c.in-None.ensures.none refl Check is)
-
-pub returns-in-None-clause-load_reads_nothing : goal.returns-in-None-clause-load_reads_nothing
-returns-in-None-clause-load_reads_nothing g c = λ packets is. refl
-
-pub returns-in-None-clause-usage : goal.returns-in-None-clause-usage
-returns-in-None-clause-usage g c = λ none. c.without_input.ensures.usage none.no_load
-
-pub returns-in-None-clause-usage_reads_nothing : goal.returns-in-None-clause-usage_reads_nothing
-returns-in-None-clause-usage_reads_nothing g c = λ none. refl
-
-pub returns-in-None-clause-wrong_words : goal.returns-in-None-clause-wrong_words
-returns-in-None-clause-wrong_words g c = λ is. absurd (unread-not c.without_input.result 1 c.without_input.ensures.unread.statuses (λ e. omega (arith, e)) (λ e. omega (arith, e)) (λ e. omega (arith, e)) (λ e. omega (arith, e)) is)
-
-pub returns-in-None-clause-usage_words : goal.returns-in-None-clause-usage_words
-returns-in-None-clause-usage_words g c = λ is. record { no_input = c.in-None.ensures.none refl; no_load = c.without_input.ensures.usage_words is }
-
-pub returns-in-None-clause-refused_words : goal.returns-in-None-clause-refused_words
-returns-in-None-clause-refused_words g c = λ is. absurd (unread-not c.without_input.result 3 c.without_input.ensures.unread.statuses (λ e. omega (arith, e)) (λ e. omega (arith, e)) (λ e. omega (arith, e)) (λ e. omega (arith, e)) is)
+pub returns-then-is_bell_run-clause-refused_words : goal.returns-then-is_bell_run-clause-refused_words
+returns-then-is_bell_run-clause-refused_words g c = refused-of (words_of c.args.words.now) (inr (rw c.if-is_bell_run.true at c.is_bell_run.ensures)) c.with_bells.ensures.answers
