@@ -1,4 +1,5 @@
 use domain_core::WaitFault;
+use door_bell::BellFault;
 use lane_end::LaneFault;
 use mc_base::{
     BufInvalid, Fault, FrameFault, Full, LetterFault, NoMemory, NsFault, Reason, Refusal,
@@ -121,7 +122,7 @@ fn each_fault_of_an_image_has_a_text(rt: HostRuntime) -> Result<(), Fail> {
 
 #[test]
 fn each_other_error_has_its_text(rt: HostRuntime) -> Result<(), Fail> {
-    let texts: [(InlineText<160>, &str); 14] = [
+    let texts: [(InlineText<160>, &str); 16] = [
         (InlineText::of(NoMemory), "out of memory"),
         (InlineText::of(BufInvalid), "no lent packet has this id"),
         (InlineText::of(SclSize), "the front scalar has another size"),
@@ -150,6 +151,11 @@ fn each_other_error_has_its_text(rt: HostRuntime) -> Result<(), Fail> {
             InlineText::of(LaneFault::Size),
             "the size of a lane is not from 1 to 256 buffers",
         ),
+        (
+            InlineText::of(BellFault::Count),
+            "the number of ringers is not from 1 to 14",
+        ),
+        (InlineText::of(BellFault::NoMemory), "out of memory"),
         (InlineText::of(ScenarioFault::NoMemory), "out of memory"),
         (
             InlineText::of(WaitFault::Refused(Refusal::Timeout)),
