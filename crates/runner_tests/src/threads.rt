@@ -3,14 +3,16 @@ ghost use Rattle.board_model.specs.Language.{told_by};
 
 use crate::threads::gates::{InOrder, Meeting};
 use board_model::Scenario;
-use board_runner::{Gate, NoGate, Outcome, Totals, run_threads};
+use board_runner::{Gate, NoGate, Outcome, Totals, run_bells, run_threads};
 use domain_core::{Answer, Entry, Journal, Told};
 use mc_base::Refusal;
 use scenario_lang::read_scenario;
 use std::alloc::{AllocError, Global};
+use std::sync::Wait;
 use std::test::Fail;
 use std::thread::Threads;
 
+mod bells;
 mod gates;
 mod raw;
 mod rings;
@@ -18,9 +20,9 @@ mod waits;
 
 pub fn read(alloc: Global, text: &[u8]) -> Option<Scenario>
     ensures told { IfSome result (λ s. told_by text.now ≡ Ok s) }
-    ensures short { IfSome result (λ _. length text.now < 1_000_000) }
+    ensures short { IfSome result (λ _. length text.now < 8_000_000) }
 {
-    if text.len() >= 1_000_000 {
+    if text.len() >= 8_000_000 {
         return None;
     }
     read_scenario(alloc, text).ok()
@@ -35,6 +37,16 @@ pub fn run<R: Threads + Sync, G: Gate + Sync>(
 ) -> Option<Outcome> {
     let scenario = read(alloc, board)?;
     run_threads(rt, alloc, &scenario, gate).ok()
+}
+
+/// Runs a board whose domains sleep where they wait without end.
+pub fn run_asleep<R: Threads + Wait + Sync>(
+    rt: &R,
+    alloc: Global,
+    board: &[u8],
+) -> Option<Outcome> {
+    let scenario = read(alloc, board)?;
+    run_bells(rt, alloc, &scenario, &NoGate).ok()
 }
 
 /// The answer of a line of a domain's script.
@@ -263,7 +275,7 @@ fn two_endpoints_one_message(rt: HostRuntime) -> Result<(), Fail> {
 
 // ---- eight domains
 
-/// Eight domains with a link of this size between each two. Each looks up each other, sends it a message and receives seven.
+/// Eight domains with a link of this size between each two. Each looks up each other, waits for it, sends it a message and receives seven.
 fn all_linked(alloc: Global, size: &[u8]) -> Result<Vec<u8>, AllocError> {
     let mut text = Vec::new(alloc);
     add_board(&mut text, size)?;
@@ -306,9 +318,9 @@ fn add_message(text: &mut Vec<u8>, one: u8, two: u8) -> Result<(), AllocError> {
     add_digit(text, b"", one, b"")?;
     add_digit(text, b"_", two, b" = lookup ")?;
     add_digit(text, b"", two, b":0:1\n")?;
-    add_digit(text, b"", one, b".0 try 4294967295 test n")?;
+    add_digit(text, b"", one, b".0 wait n")?;
     add_digit(text, b"", one, b"_")?;
-    add_digit(text, b"", two, b"\n")?;
+    add_digit(text, b"", two, b" 4294967295\n")?;
     add_digit(text, b"", one, b".0 try 4294967295 msg_send 1 ")?;
     add_digit(text, b"", two, b":0:1 1 5a\n")
 }
@@ -328,22 +340,17 @@ const ALL_TAKEN: Totals = Totals {
     ring: 0,
 };
 
-/// Whether all messages are taken that eight domains send over rings of this size.
-fn are_all_taken<R: Threads + Sync>(rt: &R, alloc: Global, size: &[u8]) -> Option<bool> {
-    let text = all_linked(alloc, size).ok()?;
-    let outcome = run(rt, alloc, &text, &NoGate)?;
-    Some(outcome.messages == ALL_TAKEN && outcome.rings.as_slice().len() == 56)
+fn are_all_taken(outcome: &Outcome) -> bool {
+    outcome.messages == ALL_TAKEN && outcome.rings.as_slice().len() == 56
 }
 
 #[test]
-fn eight_domains_over_rings_of_2(rt: HostRuntime) -> Result<(), Fail> {
-    assert!(rt; are_all_taken(&rt, rt.alloc(), b"2").ok_or("memory")?);
-    Ok(())
-}
-
-#[test]
-fn eight_domains_over_rings_of_256(rt: HostRuntime) -> Result<(), Fail> {
-    assert!(rt; are_all_taken(&rt, rt.alloc(), b"256").ok_or("memory")?);
+fn eight_domains_send_each_other_a_message(rt: HostRuntime) -> Result<(), Fail> {
+    for size in [b"2".as_slice(), b"256"] {
+        let text = all_linked(rt.alloc(), size)?;
+        assert!(rt; are_all_taken(&run(&rt, rt.alloc(), &text, &NoGate).ok_or("memory")?));
+        assert!(rt; are_all_taken(&run_asleep(&rt, rt.alloc(), &text).ok_or("memory")?));
+    }
     Ok(())
 }
 
