@@ -2,10 +2,12 @@ use outer_io::{MemSink, MemSource};
 use scenario_cli::mcrun;
 use std::alloc::{AllocError, Global};
 use std::process::Abort;
+use std::sync::Wait;
 use std::test::Fail;
 use std::thread::Threads;
 
 mod channels;
+mod counts;
 mod eight_linked;
 mod failing;
 mod frame;
@@ -129,7 +131,8 @@ lane 3 3 free 1 ring 0 queue 0 lent 0
 end
 ";
 
-const USAGE: &[u8] = b"usage: mcrun run | run --serial | check | frame | ring | load N\n";
+const USAGE: &[u8] =
+    b"usage: mcrun run | run --serial | check | frame | ring | load N | run --bells\n";
 
 /// What comes of an empty text.
 const REFUSED: &[u8] = b"refused 1 domain\n";
@@ -196,7 +199,7 @@ fn words_of(alloc: Global, texts: &[&str]) -> Result<Vec<String>, AllocError> {
 }
 
 /// The status and the output of a call.
-fn outcome_of<T: Threads + Sync>(
+fn outcome_of<T: Threads + Wait + Sync>(
     rt: &T,
     alloc: Global,
     given: Given<'_>,
@@ -215,7 +218,7 @@ fn outcome_of<T: Threads + Sync>(
 }
 
 /// Whether this status and this output come of a call.
-fn comes_out<T: Threads + Sync>(
+fn comes_out<T: Threads + Wait + Sync>(
     rt: &T,
     alloc: Global,
     given: Given<'_>,
@@ -227,7 +230,11 @@ fn comes_out<T: Threads + Sync>(
 }
 
 /// Whether a report is right.
-fn is_right<T: Threads + Sync>(rt: &T, alloc: Global, report: &[u8]) -> Result<bool, AllocError> {
+fn is_right<T: Threads + Wait + Sync>(
+    rt: &T,
+    alloc: Global,
+    report: &[u8],
+) -> Result<bool, AllocError> {
     let given = Given {
         words: CHECK,
         ..serial(report)
@@ -236,7 +243,7 @@ fn is_right<T: Threads + Sync>(rt: &T, alloc: Global, report: &[u8]) -> Result<b
 }
 
 /// Whether a scenario is run to its end, and its report is right and ends so.
-fn ends_with<T: Threads + Sync>(
+fn ends_with<T: Threads + Wait + Sync>(
     rt: &T,
     alloc: Global,
     text: &[u8],
@@ -248,7 +255,7 @@ fn ends_with<T: Threads + Sync>(
 }
 
 /// Whether this status and this output come of a text of one byte, so many times.
-fn repeated_comes_out<T: Threads + Sync>(
+fn repeated_comes_out<T: Threads + Wait + Sync>(
     rt: &T,
     alloc: Global,
     words: &[&str],
@@ -265,7 +272,7 @@ fn repeated_comes_out<T: Threads + Sync>(
 }
 
 /// Asserts the status and the line of each call.
-fn assert_lines<T: Threads + Sync + Abort>(
+fn assert_lines<T: Threads + Wait + Sync + Abort>(
     rt: &T,
     alloc: Global,
     rows: &[(Given<'_>, u8, &str)],
@@ -280,7 +287,7 @@ fn assert_lines<T: Threads + Sync + Abort>(
 }
 
 /// Asserts the status and the line that come of each text of one byte, so many times.
-fn assert_limits<T: Threads + Sync + Abort>(
+fn assert_limits<T: Threads + Wait + Sync + Abort>(
     rt: &T,
     alloc: Global,
     words: &[&str],
@@ -312,7 +319,7 @@ static OUTCOMES: [Outcome<'static>; 14] = [
     (&["--serial"], MESSAGE, 2, USAGE),
 ];
 
-fn assert_outcomes<T: Threads + Sync + Abort>(
+fn assert_outcomes<T: Threads + Wait + Sync + Abort>(
     rt: &T,
     alloc: Global,
     rows: &[Outcome<'_>],
@@ -438,7 +445,7 @@ static CUTS: [Cut<'static>; 11] = [
     ),
 ];
 
-fn is_cut<T: Threads + Sync>(
+fn is_cut<T: Threads + Wait + Sync>(
     rt: &T,
     alloc: Global,
     (given, status, due, length): Cut<'_>,

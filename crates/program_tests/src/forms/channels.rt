@@ -9,6 +9,7 @@ use super::requests::{joined, reports};
 use super::{Outcome, SERIAL, assert_outcomes};
 use std::alloc::{AllocError, Global};
 use std::process::Abort;
+use std::sync::Wait;
 use std::test::Fail;
 use std::thread::Threads;
 
@@ -212,7 +213,7 @@ fn channels_are_opened(rt: HostRuntime) -> Result<(), Fail> {
 }
 
 /// Whether the report of a case tells what it must.
-fn is_reported<T: Threads + Sync>(
+fn is_reported<T: Threads + Wait + Sync>(
     rt: &T,
     alloc: Global,
     case: Case<'_>,
@@ -221,7 +222,7 @@ fn is_reported<T: Threads + Sync>(
     reports(rt, alloc, &text, case.calls, case.end)
 }
 
-fn assert_reported<T: Threads + Sync + Abort>(
+fn assert_reported<T: Threads + Wait + Sync + Abort>(
     rt: &T,
     alloc: Global,
     cases: &[Case<'_>],

@@ -1,6 +1,7 @@
 use crate::forms::{EMPTY, Given, assert_limits, assert_lines, comes_out};
 use std::alloc::Global;
 use std::process::Abort;
+use std::sync::Wait;
 use std::test::Fail;
 use std::thread::Threads;
 
@@ -24,7 +25,7 @@ pub fn frame(text: &[u8]) -> Given<'_> {
 type Told<'a> = (&'a [u8], u8, &'a str);
 
 /// Asserts the status and the line of each text.
-fn assert_told<T: Threads + Sync + Abort>(
+fn assert_told<T: Threads + Wait + Sync + Abort>(
     rt: &T,
     alloc: Global,
     rows: &[Told<'_>],

@@ -2,6 +2,7 @@ use crate::forms::frame::frame;
 use crate::forms::{comes_out, ends_with, serial};
 use std::alloc::{AllocError, Global};
 use std::process::Abort;
+use std::sync::Wait;
 use std::test::Fail;
 use std::thread::Threads;
 
@@ -33,7 +34,7 @@ fn joined(alloc: Global, pieces: Pieces<'_>) -> Result<Vec<u8>, AllocError> {
 }
 
 /// Whether this status and this line come of a text.
-fn is_told<T: Threads + Sync>(
+fn is_told<T: Threads + Wait + Sync>(
     rt: &T,
     alloc: Global,
     text: &[u8],
@@ -48,7 +49,7 @@ fn is_told<T: Threads + Sync>(
 type Payload<'a> = (&'a str, &'a str, &'a str);
 
 /// Whether this status and a line of these first words and its own come of a payload.
-fn is_payload_told<'a, T: Threads + Sync>(
+fn is_payload_told<'a, T: Threads + Wait + Sync>(
     rt: &T,
     alloc: Global,
     status: u8,
@@ -73,7 +74,7 @@ fn is_payload_told<'a, T: Threads + Sync>(
     )
 }
 
-fn assert_payloads<'a, T: Threads + Sync + Abort>(
+fn assert_payloads<'a, T: Threads + Wait + Sync + Abort>(
     rt: &T,
     alloc: Global,
     status: u8,
@@ -357,7 +358,7 @@ static ANNOUNCEMENTS: [Announcement<'static>; 20] = [
     ("0000", &[("00", 0)], "", 1, &[("wrong 12 ns_size\n", 1)]),
 ];
 
-fn is_announcement_told<T: Threads + Sync>(
+fn is_announcement_told<T: Threads + Wait + Sync>(
     rt: &T,
     alloc: Global,
     (len, name, rest, status, line): Announcement<'_>,
@@ -418,7 +419,7 @@ static LONGEST_FRAMES: [Frame<'static>; 9] = [
     (&[("ff", 513)], 1, &[("wrong 513 frame_long\n", 1)]),
 ];
 
-fn is_frame_told<T: Threads + Sync>(
+fn is_frame_told<T: Threads + Wait + Sync>(
     rt: &T,
     alloc: Global,
     (pieces, status, line): Frame<'_>,

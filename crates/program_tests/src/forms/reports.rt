@@ -8,6 +8,7 @@ use outer_io::{Failed, MemSink, Source};
 use scenario_cli::mcrun;
 use std::alloc::{AllocError, Global};
 use std::process::Abort;
+use std::sync::Wait;
 use std::test::Fail;
 use std::thread::Threads;
 
@@ -280,7 +281,7 @@ impl Source for Zeros {
 }
 
 /// Whether this status and this output come of so many zero bytes.
-fn zeros_come_out<T: Threads + Sync + Abort>(
+fn zeros_come_out<T: Threads + Wait + Sync + Abort>(
     rt: &T,
     alloc: Global,
     count: usize,

@@ -2,6 +2,7 @@
 
 use super::{MESSAGE, comes_out, ends_with, outcome_of, serial};
 use std::alloc::{AllocError, Global};
+use std::sync::Wait;
 use std::test::Fail;
 use std::thread::Threads;
 
@@ -239,7 +240,7 @@ pub(super) fn joined(alloc: Global, first: &[u8], rest: &[u8]) -> Result<Vec<u8>
 }
 
 /// Whether a text is run to its end, and its report tells just these calls and ends so.
-pub(super) fn reports<T: Threads + Sync>(
+pub(super) fn reports<T: Threads + Wait + Sync>(
     rt: &T,
     alloc: Global,
     text: &[u8],
@@ -252,7 +253,7 @@ pub(super) fn reports<T: Threads + Sync>(
 }
 
 /// Whether the report of a case tells what it must.
-fn is_reported<T: Threads + Sync>(
+fn is_reported<T: Threads + Wait + Sync>(
     rt: &T,
     alloc: Global,
     case: Case<'_>,
@@ -354,7 +355,7 @@ call 72 request_limit
 ";
 
 /// Whether a text is run to its end, and its report tells these calls last.
-fn ends_with_calls<T: Threads + Sync>(
+fn ends_with_calls<T: Threads + Wait + Sync>(
     rt: &T,
     alloc: Global,
     text: &[u8],
@@ -404,7 +405,7 @@ const LONGEST_LABEL: &[u8] =
     b"0.0 abcdefghijklmn_9 = msg_recv_i 1 9000\n0.0 test abcdefghijklmn_9\n";
 
 /// Whether lines after a scenario are refused so.
-fn is_refused<T: Threads + Sync>(
+fn is_refused<T: Threads + Wait + Sync>(
     rt: &T,
     alloc: Global,
     lines: &[u8],

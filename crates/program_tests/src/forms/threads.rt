@@ -1,10 +1,20 @@
+//! The forms `run` and `run --bells`, which promise the same.
+
 use super::{
     EMPTY, Given, MESSAGE, MESSAGE_REPORT, NO_CALL, NO_CALL_REPORT, ONE_BUFFER, ONE_BUFFER_REPORT,
     REFUSED, comes_out, is_right, outcome_of, repeated_comes_out,
 };
+use std::alloc::{AllocError, Global};
+use std::sync::Wait;
 use std::test::Fail;
+use std::thread::Threads;
 
 const THREADS: &[&str] = &["run"];
+
+const BELLS: &[&str] = &["run", "--bells"];
+
+/// The words of both forms.
+const BOTH: [&[&str]; 2] = [THREADS, BELLS];
 
 const SERIAL_HEADING: &[u8] = b"mcapi-report 1 serial\n";
 
@@ -38,16 +48,19 @@ fn after<'a>(front: &[u8], bytes: &'a [u8]) -> Option<&'a [u8]> {
 /// One domain has nobody to run beside, so its report is that of the serial run under another heading.
 #[test]
 fn one_domain_on_threads(rt: HostRuntime) -> Result<(), Fail> {
-    for (text, report) in &ONE_DOMAIN {
-        let given = Given {
-            text: *text,
-            ..ON_THREADS
-        };
-        let (status, output) = outcome_of(&rt, rt.alloc(), given)?;
-        let written = after(THREADS_HEADING, output.written()).ok_or("heading")?;
-        assert!(rt; status == 0);
-        assert!(rt; after(SERIAL_HEADING, *report) == Some(written));
-        assert!(rt; is_right(&rt, rt.alloc(), output.written())?);
+    for words in BOTH {
+        for (text, report) in &ONE_DOMAIN {
+            let given = Given {
+                words,
+                text: *text,
+                ..ON_THREADS
+            };
+            let (status, output) = outcome_of(&rt, rt.alloc(), given)?;
+            let written = after(THREADS_HEADING, output.written()).ok_or("heading")?;
+            assert!(rt; status == 0);
+            assert!(rt; after(SERIAL_HEADING, *report) == Some(written));
+            assert!(rt; is_right(&rt, rt.alloc(), output.written())?);
+        }
     }
     Ok(())
 }
@@ -108,12 +121,15 @@ static CUTS: [(Given<'static>, u8, usize); 6] = [
 #[test]
 fn streams_that_fail_on_threads(rt: HostRuntime) -> Result<(), Fail> {
     let (_, whole) = outcome_of(&rt, rt.alloc(), ON_THREADS)?;
-    for (i, (given, status, length)) in CUTS.iter().enumerate() {
-        let written = whole.written().get(..*length).ok_or("length")?;
-        assert!(rt;
-            comes_out(&rt, rt.alloc(), *given, *status, written)?,
-            "row {i}"
-        );
+    for words in BOTH {
+        for (i, (given, status, length)) in CUTS.iter().enumerate() {
+            let given = Given { words, ..*given };
+            let written = whole.written().get(..*length).ok_or("length")?;
+            assert!(rt;
+                comes_out(&rt, rt.alloc(), given, *status, written)?,
+                "row {i}"
+            );
+        }
     }
     Ok(())
 }
@@ -127,12 +143,15 @@ static REFUSALS: [(&[u8], &[u8]); 3] = [
 
 #[test]
 fn refusals_on_threads(rt: HostRuntime) -> Result<(), Fail> {
-    for (i, (text, written)) in REFUSALS.iter().enumerate() {
-        let given = Given {
-            text: *text,
-            ..ON_THREADS
-        };
-        assert!(rt; comes_out(&rt, rt.alloc(), given, 3, *written)?, "row {i}");
+    for words in BOTH {
+        for (i, (text, written)) in REFUSALS.iter().enumerate() {
+            let given = Given {
+                words,
+                text: *text,
+                ..ON_THREADS
+            };
+            assert!(rt; comes_out(&rt, rt.alloc(), given, 3, *written)?, "row {i}");
+        }
     }
     Ok(())
 }
@@ -140,9 +159,11 @@ fn refusals_on_threads(rt: HostRuntime) -> Result<(), Fail> {
 #[test]
 fn limit_of_the_input_on_threads(rt: HostRuntime) -> Result<(), Fail> {
     let long = (b'7', 8_388_608);
-    assert!(rt; repeated_comes_out(&rt, rt.alloc(), THREADS, long, 3, b"refused 1 long\n")?);
     let longer = (b'7', 8_388_609);
-    assert!(rt; repeated_comes_out(&rt, rt.alloc(), THREADS, longer, 7, b"")?);
+    for words in BOTH {
+        assert!(rt; repeated_comes_out(&rt, rt.alloc(), words, long, 3, b"refused 1 long\n")?);
+        assert!(rt; repeated_comes_out(&rt, rt.alloc(), words, longer, 7, b"")?);
+    }
     Ok(())
 }
 
@@ -175,11 +196,12 @@ const LINKED_END: usize = 4 * LANE + 2 * RING + b"end\n".len();
 
 #[test]
 fn two_linked_domains_on_threads(rt: HostRuntime) -> Result<(), Fail> {
-    let given = Given {
-        text: LINKED,
-        ..ON_THREADS
-    };
-    for _run in 0..20 {
+    for run in 0..40 {
+        let given = Given {
+            words: if run < 20 { THREADS } else { BELLS },
+            text: LINKED,
+            ..ON_THREADS
+        };
         let (status, output) = outcome_of(&rt, rt.alloc(), given)?;
         let written = output.written();
         assert!(rt; status == 0);
@@ -257,13 +279,147 @@ end
 
 #[test]
 fn the_rings_of_each_link_on_threads(rt: HostRuntime) -> Result<(), Fail> {
-    for (text, report) in &[(TURNS, TURNS_REPORT), (TWO_LINKS, TWO_LINKS_REPORT)] {
-        let given = Given {
-            text: *text,
-            ..ON_THREADS
-        };
-        assert!(rt; comes_out(&rt, rt.alloc(), given, 0, *report)?);
-        assert!(rt; is_right(&rt, rt.alloc(), *report)?);
+    for words in BOTH {
+        for (text, report) in &[(TURNS, TURNS_REPORT), (TWO_LINKS, TWO_LINKS_REPORT)] {
+            let given = Given {
+                words,
+                text: *text,
+                ..ON_THREADS
+            };
+            assert!(rt; comes_out(&rt, rt.alloc(), given, 0, *report)?);
+            assert!(rt; is_right(&rt, rt.alloc(), *report)?);
+        }
     }
+    Ok(())
+}
+
+/// Whether a board is run to its end in both forms, so many times, with these lines in its report, which is right.
+fn tells<T: Threads + Wait + Sync>(
+    rt: &T,
+    alloc: Global,
+    text: &[u8],
+    runs: u32,
+    lines: &[u8],
+) -> Result<bool, AllocError> {
+    for words in BOTH {
+        for _run in 0..runs {
+            let given = Given {
+                words,
+                text,
+                room: 4_000_000,
+                ..ON_THREADS
+            };
+            let (status, output) = outcome_of(rt, alloc, given)?;
+            let written = output.written();
+            if status != 0 || !has(written, lines) || !is_right(rt, alloc, written)? {
+                return Ok(false);
+            }
+        }
+    }
+    Ok(true)
+}
+
+/// Whether a text has these bytes somewhere.
+fn has(text: &[u8], bytes: &[u8]) -> bool {
+    text.windows(bytes.len().max(1)).any(|part| part == bytes)
+}
+
+const HOST_BOARD: &[u8] = b"domain 0 nodes 1 pool 2
+domain 1 nodes 1 pool 2
+domain 2 nodes 1 pool 2
+link 0 1 size 256
+link 0 2 size 256
+0.0 create 1
+0.0 one = lookup 1:0:1
+0.0 two = lookup 2:0:1
+0.0 wait one 4294967295
+0.0 wait two 4294967295
+1.0 create 1
+1.0 host = lookup 0:0:1
+1.0 wait host 4294967295
+2.0 create 1
+2.0 host = lookup 0:0:1
+2.0 wait host 4294967295
+";
+
+const HOST_ROUND: &[u8] = b"0.0 try 4294967295 msg_send 1 1:0:1 1 7069
+0.0 try 4294967295 msg_send 1 2:0:1 1 7069
+0.0 try 4294967295 msg_recv 1 9
+0.0 try 4294967295 msg_recv 1 9
+1.0 try 4294967295 msg_send 1 0:0:1 1 706f
+1.0 try 4294967295 msg_recv 1 9
+2.0 try 4294967295 msg_send 1 0:0:1 1 706f
+2.0 try 4294967295 msg_recv 1 9
+";
+
+/// The host sends 300 messages to each remote and receives as many from each.
+#[test]
+fn a_host_and_two_remotes_ten_times(rt: HostRuntime) -> Result<(), Fail> {
+    let mut text = Vec::new(rt.alloc());
+    text.extend_from_slice(HOST_BOARD)?;
+    for _round in 0..300 {
+        text.extend_from_slice(HOST_ROUND)?;
+    }
+    let messages = b"\nmessages accepted 1200 taken 1200 dropped 0 queued 0 ring 0\n";
+    assert!(rt; tells(&rt, rt.alloc(), &text, 10, messages)?);
+    Ok(())
+}
+
+/// Four frames with faults, on a link of four buffers.
+const RAW_FRAMES: &[u8] = b"domain 0 nodes 1 pool 2
+domain 1 nodes 1 pool 2
+link 0 1 size 4
+0.0 raw 1 000400000004000000000000080000000001010000000000
+0.0 raw 1 000400000004000000000000080000004d09010000000000
+0.0 raw 1 000400000004000000000000080000004d014d0000000000
+0.0 raw 1 00040000350000000000000027000000000000000000000000000000000000000000000000000000000000000000000000000000000000
+1.0 turn
+";
+
+/// Whenever the frames come, each is put.
+const RAW_FRAMES_PUT: &[u8] = b"
+journal 0
+idle 1
+put 1 000400000004000000000000080000000001010000000000
+call 1 ok
+idle 1
+put 1 000400000004000000000000080000004d09010000000000
+call 2 ok
+idle 1
+put 1 000400000004000000000000080000004d014d0000000000
+call 3 ok
+idle 1
+put 1 00040000350000000000000027000000000000000000000000000000000000000000000000000000000000000000000000000000000000
+call 4 ok
+";
+
+#[test]
+fn raw_frames_on_threads(rt: HostRuntime) -> Result<(), Fail> {
+    assert!(rt; tells(&rt, rt.alloc(), RAW_FRAMES, 10, RAW_FRAMES_PUT)?);
+    Ok(())
+}
+
+/// Two domains that need each other's lines between two tries, which by turns in the order of the file come too late: all tries of the
+/// first have failed by then. A run on one thread would answer `pending` at line 3 and `peer_invalid` at line 4 of domain 0.
+const EACH_OTHER: &[u8] = b"domain 0 nodes 1 pool 2
+domain 1 nodes 1 pool 2
+link 0 1 size 4
+0.0 create 1
+0.0 far = lookup 1:0:1
+0.0 try 3000000 test far
+0.0 msg_send 1 1:0:1 1 7069
+0.0 try 3000000 msg_recv 1 9
+1.0 create 1
+1.0 far = lookup 0:0:1
+1.0 try 3000000 test far
+1.0 try 3000000 msg_recv 1 9
+1.0 msg_send 1 0:0:1 1 706f
+";
+
+/// The one thing here that tells a run on threads from a serial run under its heading.
+#[test]
+fn two_domains_run_beside_each_other(rt: HostRuntime) -> Result<(), Fail> {
+    let messages = b"\nmessages accepted 2 taken 2 dropped 0 queued 0 ring 0\n";
+    assert!(rt; tells(&rt, rt.alloc(), EACH_OTHER, 1, messages)?);
     Ok(())
 }
