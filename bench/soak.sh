@@ -3,6 +3,7 @@
 # or its image has a fault:
 #   as many messages over one link as an input of `run` holds, again and again until MESSAGES have gone over;
 #   a host that sends 300 messages to each of two remotes and receives as many from each, RUNS times;
+#   the board of `load 2000`, whose report `check` has to find right;
 #   two domains whose journals outgrow their memory: out of memory on a thread is status 6, and nothing is written.
 # Run it at the top of the repository, where crates/mcrun is built: sh bench/soak.sh [MESSAGES [RUNS]]
 # Without numbers MESSAGES is 10,000,000 and RUNS 1,000.
@@ -71,6 +72,30 @@ soak("one link", one_link, text(head + pair * count), count, -(-MESSAGES // coun
 
 rounds = [send(0, 1), send(0, 2), receive(0), receive(0), send(1, 0), receive(1), send(2, 0), receive(2)]
 soak("a host and two remotes", two_links, text(board(3, two_links) + rounds * 300), 1200, RUNS)
+
+# the board that `load N` runs, as docs/FORMATS.md has it
+def load_board(packets):
+    end, domains = 4_294_967_295, [(d, (d + 1) % 4) for d in range(4)]
+    groups = [["domain {d} nodes 1 pool 2"], ["link {d} {e} size 16"], ["{d}.0 create 1", "{d}.0 create 2"],
+              ["{d}.0 a = lookup {e}:0:2", "{d}.0 wait a {end}"],
+              ["{d}.0 c = try {end} connect 1 {e}:0:2 packet", "{d}.0 wait c {end}"],
+              ["{d}.0 try {end} open_recv 2 packet", "{d}.0 try {end} open_send 1 packet"]]
+    lines = [line.format(d=d, e=e, end=end) for group in groups for d, e in domains for line in group]
+    for k in range(1, packets + 1):
+        content = k.to_bytes(4, "little").hex()
+        for line in (f"try {end} pkt_send 1 {content}", f"p{k} = try {end} pkt_recv 2", f"release p{k}"):
+            lines += [f"{d}.0 {line}" for d, _ in domains]
+    return text(lines)
+
+start = time.perf_counter()
+status, report = run(load_board(2000))
+channels = [f"channel {d} 1 accepted 2000 taken 2000 dropped 0 queued 0 ring 0" for d in range(4)]
+if status or ("\n" + "\n".join(channels) + "\n").encode() not in report:
+    sys.exit(f"status {status}, and not 2000 packets taken of each channel")
+verdict = subprocess.run([PROGRAM, "check"], input=report, stdout=subprocess.PIPE)
+if verdict.stdout != b"right\n":
+    sys.exit(f"the report of the load board is {verdict.stdout.decode()}")
+print(f"the load board: 2000 packets on each of four channels, {time.perf_counter() - start:.0f} s, its report right", flush=True)
 
 alone = [line for d in range(2) for line in [f"domain {d} nodes 1 pool 2"]] + [f"{d}.0 create 1" for d in range(2)]
 alone += [line for d in range(2) for line in [f"{d}.0 msg_send 1 {d}:0:1 0 " + "ab" * 488, f"{d}.0 msg_recv 1 0"]] * 1000
