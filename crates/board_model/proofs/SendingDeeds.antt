@@ -143,7 +143,7 @@ module _ (n p : ℕ) (w : Way) (t m : List (List ℕ)) (s : DomainState) (own : 
         tt,
         subst (λ r. FitAllOut n p (t ++ takes_by p (takes q name frame word)) taken r.happens) (row_same s q c.part (held_by c) q c (said_from s q frame))
             (frame_fits_out n p (t ++ takes_by p (takes q name frame word)) taken q c (said_from s q frame)
-            (λ from. coming-holds (λ r. accepts n r ≡ true → Accepted n (t ++ takes_by p (takes q name frame word))) (λ a d k bytes it. let never = sym (deaf_carrier n a d k bytes) ∙ it in absurd cc) (λ a d x it. absurd cc) (part_of s q) (reading frame) (λ it. subst (λ b. Accepted n (t ++ frames_if b (frame ∷ []))) (sym (eq-eqb q p from)) (any-last (λ f. accepts n (reading f)) t frame it))))
+            (λ from. coming-holds (λ r. accepts n r ≡ true → Accepted n (t ++ takes_by p (takes q name frame word))) (λ a d k bytes it. let never = sym (deaf_carrier n a d k bytes) ∙ it in absurd cc) (λ a d x it. absurd cc) (part_of s q) (reading frame) (λ it. subst (λ b. Accepted n (t ++ frames_if b (frame ∷ []))) (sym (eq-eqb q p from)) (any-last (λ f. accepts n (reading f)) t frame it)))),
       )
 
 -- ---- a run

@@ -17,10 +17,11 @@ pub fn channel_of(frame: &[u8], from: u8, to: u8) -> Option<Channel> {
         return None;
     };
     match letter {
-        Letter::Msg { .. } => None,
+        Letter::Msg { .. } | Letter::MsgPart { .. } => None,
         Letter::Connect { channel, .. }
         | Letter::SendOpen { channel }
         | Letter::Packet { channel, .. }
+        | Letter::PacketPart { channel, .. }
         | Letter::Scalar { channel, .. }
         | Letter::SendClose { channel } => Some(Channel {
             domain: from,

@@ -41,7 +41,37 @@ pub fn put_letter<K: Sink>(out: &mut Writer<'_, K>, letter: &Letter<'_>)
         } => put_scalar(out, channel, bits, value),
         Letter::SendClose { channel } => put_channel(out, b"sender closed channel ", channel),
         Letter::RecvClose { channel } => put_channel(out, b"receiver closed channel ", channel),
+        Letter::MsgPart {
+            priority,
+            total,
+            offset,
+            bytes,
+        } => {
+            put_cut(out, total, offset);
+            let number = u32::from(priority.number());
+            put_content(out, b"message of priority ", number, bytes)
+        }
+        Letter::PacketPart {
+            channel,
+            total,
+            offset,
+            bytes,
+        } => {
+            put_cut(out, total, offset);
+            put_content(out, b"packet on channel ", channel, bytes)
+        }
     }
+}
+
+/// Puts where a part lies in its message or packet.
+fn put_cut<K: Sink>(out: &mut Writer<'_, K>, total: u16, offset: u16)
+    ensures { PutsText K.Sink out.old out.new }
+{
+    out.put(b"part from byte ");
+    out.put_number(u64::from(offset));
+    out.put(b" of ");
+    out.put_number(u64::from(total));
+    out.put(b", ");
 }
 
 fn put_channel<K: Sink>(out: &mut Writer<'_, K>, words: &[u8], channel: u32)

@@ -26,7 +26,7 @@ IsScenario text s = told_by text ≡ Ok s
 abbrev pub IsRefused : List ℕ → RefusedLine → Type 0
 IsRefused text r = told_by text ≡ Err r
 
--- a fault of reading says of the text the line that is refused. Want of memory says nothing of it
+-- a fault of reading says of the text the line that is refused. An allocation that failed says nothing of it
 abbrev pub IsFaultOf : List ℕ → ScenarioFault → Type 0
 IsFaultOf text (scenario_fault.Refused line reason) = IsRefused text (refused line reason)
 IsFaultOf text scenario_fault.NoMemory = Unit {0}
