@@ -17,7 +17,7 @@ use Rattle.board_model.specs.Scenario.{script}
 use Rattle.board_model.specs.Serial.{put_entry}
 use Rattle.board_model.specs.SerialRun as run
 use Rattle.board_model.specs.SerialRun.{entered}
-use Rattle.board_model.specs.State.{DomainState}
+use Rattle.board_model.specs.State.{DomainState, frames_from}
 use Rattle.board_model.specs.Step.{call_at, is_timeout, limit_of}
 use Rattle.board_model.specs.Tallies.{deleted_in}
 use Rattle.board_model.specs.Unnamed.{no_names}
