@@ -3,12 +3,13 @@ use Rattle.board_model.proofs.PartLetters.{each-put, each-frame}
 use Rattle.std.proofs.Common.{◌≡◌, ℕ, ◌<◌, ◌^◌, Bool, true, false, List, [], ◌∷◌, map, Option, None, Some, sym, subst, arith}
 use Rattle.std.specs.Prelude.{is_none, ◌==◌}
 use Rattle.std.specs.List.{AllByRecursion}
+use Rattle.mc_base.specs.Limits.{channel_limit}
 use Rattle.mc_base.specs.Letter.{PlainLetter, msg, connect, accept, reject, recv_open, send_open, packet, scalar, send_close, recv_close, fields_of, spelling}
 use Rattle.mc_base.specs.Fault.{fault}
 use Rattle.mc_base.specs.Frame.{made}
 use Rattle.mc_base.specs.Reading.{Reading, reading}
 use Rattle.mc_base.specs.declared.channel.Reason.{Reason}
-use Rattle.board_model.specs.Answer.{channel_limit, Post, puts, puts_of}
+use Rattle.board_model.specs.Answer.{Post, puts, puts_of}
 use Rattle.board_model.specs.Deeds.{Deed, looks_back, puts_owed, looks_ahead, takes, calls, MayDo, AllMayDo, after_deed, along}
 use Rattle.board_model.specs.State.{letter_by, Announcement, Reply, Peer, DomainState, announcing, replying, owed_to}
 use Rattle.board_model.proofs.DeedRuns.{frames_if, puts_by}

@@ -6,7 +6,7 @@ use Rattle.std.proofs.Common.{◌≡◌, ℕ, ◌+◌, ◌≤◌, ◌<◌, ◌�
 use Rattle.std.specs.Prelude.{find, ◌==◌, nat_lt, is_some, option_map, unwrap_or}
 use Rattle.std.specs.List.{AllByRecursion, flat_map}
 use Rattle.std.proofs.lemmas.Bool.{cond_both, leb-false, eqb-true}
-use Rattle.mc_base.specs.Limits.{creation_limit}
+use Rattle.mc_base.specs.Limits.{creation_limit, channel_limit}
 use Rattle.mc_base.specs.NameMap.{Names, rank, has_name, learned}
 use Rattle.mc_base.specs.Reading.{Reading, announces, reading, says}
 use Rattle.mc_base.specs.Letter.{PlainLetter, accept, reject, packet, scalar, send_close, Carrier, of_message, of_packet, carried}
@@ -21,7 +21,7 @@ use Rattle.board_model.specs.State.{Item, ChannelEnd, Endpoint, Announcement, Re
 use Rattle.board_model.specs.Change.{Change, item_queued, item_handed, item_lost, packet_lent, names_known, name_found, changed_all}
 use Rattle.board_model.specs.TakenFrames.{Row, names_of, rejecting, accepting, acting, item_of, row_of}
 use Rattle.board_model.specs.Messages.{said_by}
-use Rattle.board_model.specs.Answer.{first_complete, local, holds, words_of, refusal, unless_refused, channel_at, channel_limit, over_channel, opening_letter, closing_letter, Post, puts_of, success_posts, success_puts, puts}
+use Rattle.board_model.specs.Answer.{first_complete, local, holds, words_of, refusal, unless_refused, channel_at, over_channel, opening_letter, closing_letter, Post, puts_of, success_posts, success_puts, puts}
 use Rattle.board_model.specs.CallChanges.{at_live, closing, lending, lent_by_test, success_changes}
 use Rattle.board_model.specs.Deeds.{Deed, looks_back, puts_owed, looks_ahead, takes, calls, happens_by, after_deed, MayDo}
 use Rattle.board_model.proofs.DeedRuns.{frames_if, frames_to, puts_by}

@@ -6,6 +6,7 @@ use Rattle.std.proofs.Common.{◌≡◌, ℕ, ◌≤◌, ◌<◌, Bool, true, fa
 use Rattle.std.specs.Prelude.{find, ◌==◌, is_some, option_map, unwrap_or}
 use Rattle.std.specs.List.{AllByRecursion}
 use Rattle.std.proofs.lemmas.Bool.{leb-false, eqb-true}
+use Rattle.mc_base.specs.Limits.{channel_limit}
 use Rattle.mc_base.specs.Letter.{PlainLetter, connect, accept, reject, recv_open, send_open, packet, scalar, send_close, recv_close, IsChannel, Carrier, of_message, of_packet, carried}
 use Rattle.mc_base.specs.NameMap.{Names, has_name, address_in}
 use Rattle.mc_base.specs.Reading.{Reading, says, reading}
@@ -24,7 +25,7 @@ use Rattle.board_model.specs.State.{connected, closed, Stage, ChannelEnd, Endpoi
 use Rattle.board_model.specs.Change.{Change, endpoint_made, endpoint_gone, item_queued, best_gone, oldest_gone, channel_set, queue_dropped, item_handed, item_lost, names_known, name_found, endpoint_with, with_queue, with_channel, without_queue, changed, changed_all}
 use Rattle.board_model.specs.ChannelEnds.{is_closed, is_connecting, same_kind, sends_to, hears_from, closed_end, far_closed_end, EndRow, end_row, left_row, end_row_of}
 use Rattle.board_model.specs.TakenFrames.{rejecting, accepting, acting, item_of, row_of}
-use Rattle.board_model.specs.Answer.{local, known_address, address_of, channel_limit, holds, words_of, refusal, unless_refused}
+use Rattle.board_model.specs.Answer.{local, known_address, address_of, holds, words_of, refusal, unless_refused}
 use Rattle.board_model.specs.CallChanges.{closing, success_changes}
 use Rattle.board_model.specs.Deeds.{Deed, looks_back, puts_owed, looks_ahead, takes, calls, happens_by, after_deed, after_deeds}
 use Rattle.board_model.proofs.LaneRows.{Deals, stays, strays, awaits, learns, forgets, hands, queues, loses, rejects, accepts, acts, acting-all, row-deals}

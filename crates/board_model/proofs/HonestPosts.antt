@@ -4,7 +4,7 @@ use Rattle.std.proofs.Common.{◌≡◌, ℕ, ◌+◌, ◌*◌, ◌≤◌, ◌<�
 use Rattle.std.specs.Prelude.{is_some, option_map, unwrap_or, nat_lt, ◌||◌}
 use Rattle.std.specs.List.{AllByRecursion}
 use Rattle.std.proofs.lemmas.Bool.{leb-false, ltb-false}
-use Rattle.mc_base.specs.Limits.{item_size}
+use Rattle.mc_base.specs.Limits.{item_size, channel_limit}
 use Rattle.mc_base.specs.Letter.{PlainLetter, bytes_of_bits, msg, connect, packet, scalar, IsChannel}
 use Rattle.mc_base.specs.declared.name.Local.{Local}
 use Rattle.mc_base.specs.declared.name.EndName.{EndName}
@@ -12,7 +12,7 @@ use Rattle.mc_base.specs.declared.channel.Side.{Side}
 use Rattle.mc_base.specs.declared.channel.Side.TheVariants.{Sender, Receiver}
 use Rattle.board_model.specs.DomainCall.{DomainCall, send_from, connect_from, open_at, packet_from, scalar_from, close_at}
 use Rattle.board_model.specs.State.{ChannelEnd, Endpoint, DomainState, is_at, place_at, address_at, live_at, channel_in}
-use Rattle.board_model.specs.Answer.{local, address_of, channel_limit, over_channel, over_end, opening_letter, closing_letter, Post, post, success_posts}
+use Rattle.board_model.specs.Answer.{local, address_of, over_channel, over_end, opening_letter, closing_letter, Post, post, success_posts}
 use Rattle.board_model.proofs.MessageAlls.{all-found}
 use Rattle.board_model.proofs.MessageLists.{get-position}
 use Rattle.board_model.proofs.StateEnds.{there_is}

@@ -5,6 +5,7 @@ use Rattle.std.specs.Prelude.{◌==◌, unwrap_or}
 use Rattle.std.proofs.lemmas.Bool.{ne_eqb}
 use Rattle.std.proofs.lemmas.Bool.Decides.{eqb_tells}
 use Rattle.std.proofs.lemmas.List.Sums.{sum_by-append, sum_by-cons}
+use Rattle.mc_base.specs.Limits.{turn_limit}
 use Rattle.board_model.proofs.WaitCalls.{wait-puts}
 use Rattle.board_model.specs.Answer.{puts}
 use Rattle.board_model.specs.declared.scenario.CallLine.{CallLine}
@@ -13,7 +14,7 @@ use Rattle.board_model.specs.State.{DomainState, Peer, peer_at, peer_of, free_to
 use Rattle.board_model.specs.Deeds.{looks_back, puts_owed, looks_ahead, after_deed, along}
 use Rattle.board_model.specs.Returns.{names_given}
 use Rattle.board_model.specs.Serial.{looks_deeds}
-use Rattle.board_model.specs.Turn.{turn_limit, nameless, takes_named, visit_deeds, after_visit, IsVisit, AreVisits, after_turn}
+use Rattle.board_model.specs.Turn.{nameless, takes_named, visit_deeds, after_visit, IsVisit, AreVisits, after_turn}
 use Rattle.board_model.specs.DomainCall.{DomainCall}
 use Rattle.board_model.specs.CallChanges.{effect, returned}
 use Rattle.board_model.specs.Step.{RunState, HasNoPuts, next_line, call_at, Allowed, effect_of_line, after, limit_of, MayCome}

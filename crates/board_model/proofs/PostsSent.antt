@@ -3,12 +3,13 @@ use Rattle.std.proofs.Common.{◌≡◌, ℕ, ◌+◌, ◌<◌, Bool, true, fals
 use Rattle.std.specs.Prelude.{is_none, ◌==◌}
 use Rattle.std.specs.List.{AllByRecursion, flat_map}
 use Rattle.std.proofs.lemmas.Bool.{leb-false}
+use Rattle.mc_base.specs.Limits.{channel_limit}
 use Rattle.mc_base.specs.Fault.{fault}
 use Rattle.mc_base.specs.Letter.{PlainLetter, msg, connect, accept, reject, packet, scalar}
 use Rattle.mc_base.specs.declared.channel.Side.{Side}
 use Rattle.mc_base.specs.declared.channel.Side.TheVariants.{Sender, Receiver}
 use Rattle.mc_base.specs.declared.refusal.Refusal.{Refusal}
-use Rattle.board_model.specs.Answer.{local, address_of, channel_at, channel_limit, Post, post, puts_of, over_channel, opening_letter, closing_letter, success_puts, puts, holds, words_of, refusal, unless_refused}
+use Rattle.board_model.specs.Answer.{local, address_of, channel_at, Post, post, puts_of, over_channel, opening_letter, closing_letter, success_puts, puts, holds, words_of, refusal, unless_refused}
 use Rattle.board_model.specs.DomainCall.{DomainCall, send_from, connect_from, open_at, packet_from, scalar_from, close_at, raw_to}
 use Rattle.board_model.specs.State.{ChannelEnd, Endpoint, DomainState, address_at, live_at}
 use Rattle.board_model.proofs.DeedRuns.{frames_if, frames_to}

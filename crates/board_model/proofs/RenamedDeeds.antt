@@ -5,6 +5,7 @@ use Rattle.std.proofs.Common.{◌≡◌, ℕ, Bool, true, false, not, ◌&&◌, 
 use Rattle.std.specs.Prelude.{option_map, is_some, nat_le, ◌==◌, is_none, filter}
 use Rattle.std.specs.List.{flat_map}
 use Rattle.std.proofs.lemmas.List.{length-map, map-append}
+use Rattle.mc_base.specs.Limits.{reply_limit}
 use Rattle.mc_base.specs.FullName.{endpoint_named}
 use Rattle.mc_base.specs.NameMap.{Names}
 use Rattle.mc_base.specs.Letter.{PlainLetter, msg, connect, accept, reject, packet, scalar, send_close}
@@ -16,7 +17,7 @@ use Rattle.mc_base.specs.declared.fate.Fate.{Fate}
 use Rattle.mc_base.specs.declared.fate.Fate.TheVariants as fate
 use Rattle.board_model.specs.State.{Item, ChannelEnd, Endpoint, DomainState, endpoint_of, peer_at, HeldFrame, Part, holds_from, held_of}
 use Rattle.board_model.specs.Change.{buffers_back, owed_put, frames_shown, frame_taken, changed_all, item_handed, item_queued}
-use Rattle.board_model.specs.TakenFrames.{Row, row, last_row, first_row, names_of, name_rows, reply_limit, replies_to, rejecting, accepting, is_busy, connect_rows, item_of, message_rows, acting, rows_by, channel_rows, letter_rows, row_of, row_from}
+use Rattle.board_model.specs.TakenFrames.{Row, row, last_row, first_row, names_of, name_rows, replies_to, rejecting, accepting, is_busy, connect_rows, item_of, message_rows, acting, rows_by, channel_rows, letter_rows, row_of, row_from}
 use Rattle.board_model.specs.ChannelEnds.{EndRow, end_rows}
 use Rattle.board_model.specs.CallChanges.{call_changes}
 use Rattle.board_model.specs.Deeds.{Deed, looks_back, puts_owed, looks_ahead, takes, calls, MayDo, after_deed, after_deeds, AllMayDo, taken_change}

@@ -3,11 +3,12 @@ use Rattle.std.proofs.Common.{◌≡◌, ℕ, ◌+◌, ◌-◌, min, Bool, true,
 use Rattle.std.specs.Prelude.{option_map, ◌==◌}
 use Rattle.std.proofs.lemmas.Bool.{ne_eqb, eq-eqb}
 use Rattle.std.proofs.lemmas.List.{append_assoc}
+use Rattle.mc_base.specs.Limits.{turn_limit}
 use Rattle.board_model.specs.Journal.{Visit, Taken}
 use Rattle.board_model.specs.State.{Announcement, Reply, Peer, DomainState, peer_at, peer_of, replying, owed_to}
 use Rattle.board_model.specs.Change.{first_put, owed_put, buffers_back, frames_shown, changed}
 use Rattle.board_model.specs.Deeds.{looks_back, puts_owed, looks_ahead, after_deeds, AllMayDo}
-use Rattle.board_model.specs.Turn.{turn_limit, due_frames, nameless, takes_named, visit_deeds, after_visit}
+use Rattle.board_model.specs.Turn.{due_frames, nameless, takes_named, visit_deeds, after_visit}
 use Rattle.board_model.specs.Serial.{looks_deeds}
 use Rattle.board_model.proofs.LanePeers.{peer_found, peer-changed, first-free}
 use Rattle.board_model.proofs.DeedJoins.{may-join, may-back, after-join}

@@ -1,10 +1,11 @@
 -- A visit of the serial run: it is one that the lanes allow, and it leaves each lane well.
 use Rattle.std.proofs.Common.{◌≡◌, ℕ, ◌+◌, ◌≤◌, min, ◌&&◌, List, length, take, Option, Some, None, option_map, refl, sym, ap, ◌∙◌, subst, arith, length-take, length-append, eq-eqb}
 use Rattle.std.specs.Prelude.{◌==◌, unwrap_or}
+use Rattle.mc_base.specs.Limits.{turn_limit}
 use Rattle.board_model.specs.Journal.{Visit}
 use Rattle.board_model.specs.State.{DomainState, Peer, peer_of, free_to, held_from, owed_to}
 use Rattle.board_model.specs.Deeds.{after_deeds}
-use Rattle.board_model.specs.Turn.{turn_limit, after_visit, IsVisit}
+use Rattle.board_model.specs.Turn.{after_visit, IsVisit}
 use Rattle.board_model.specs.Serial.{due_to, looks_deeds, returned_at_once}
 use Rattle.board_model.specs.Loads.{Load, frames_in, returned_in, returned_on, frames_due, after_owed, frames_seen, with_load, visit_to, loads_visited}
 use Rattle.board_model.proofs.VisitLooks.{after_looks, after_takes, HaveWords, visit-after, visit-may, looks-keep}

@@ -3,7 +3,7 @@
 use Rattle.std.specs.Prelude.{ℕ, ◌+◌, Bool, true, false, not, ◌||◌, List, [], ◌∷◌, map, length, take, nat_lt, nat_le, ◌==◌, find, position, option_map, option_and_then, Option, None, Some, is_none, is_some, unwrap_or, if◌then◌else◌}
 use Rattle.std.specs.List.{list_all, list_any, flat_map}
 use Rattle.byteorder.specs.Endian.{little_number}
-use Rattle.mc_base.specs.Limits.{item_size, first_address, record_limit, creation_limit, request_limit}
+use Rattle.mc_base.specs.Limits.{item_size, first_address, record_limit, creation_limit, request_limit, channel_limit}
 use Rattle.mc_base.specs.NameMap.{address_in}
 use Rattle.mc_base.specs.Fault.{fault}
 use Rattle.mc_base.specs.Frame.{made}
@@ -218,10 +218,6 @@ success_puts s node other = flat_map puts_of (success_posts s node other)
 abbrev pub lacks_buffers : DomainState → List (ℕ × List ℕ) → Bool
 lacks_buffers s [] = false
 lacks_buffers s (p ∷ ps) = nat_lt (free_to s p.0) (length (p ∷ ps))
-
--- the most channels that a domain ever numbers
-abbrev pub channel_limit : ℕ
-channel_limit = 65535
 
 -- the conditions of the words
 abbrev pub holds : DomainState → ℕ → DomainCall → Refusal → Bool

@@ -3,7 +3,7 @@
 use Rattle.std.specs.Prelude.{ℕ, ◌-◌, ◌*◌, ◌^◌, ◌&&◌, Bool, true, false, List, [], ◌∷◌, ◌++◌, map, length, nat_le, codes, bytes_eq, Option, None, Some, option_map, is_some, unwrap_or, ◌==◌, if◌then◌else◌}
 use Rattle.std.specs.List.{list_all}
 use Rattle.arrayvec.specs.ArrayVec.{ArrayVec}
-use Rattle.mc_base.specs.Limits.{asked_limit, longest_frame, try_limit}
+use Rattle.mc_base.specs.Limits.{asked_limit, longest_frame, try_limit, last_domain, last_node, node_limit, pool_limit, last_priority}
 use Rattle.mc_base.specs.Letter.{bytes_of_bits}
 use Rattle.mc_base.specs.declared.name.EndName.{EndName}
 use Rattle.mc_base.specs.declared.channel.Kind.{Kind}
@@ -77,19 +77,19 @@ argument_fits PacketLabel word = is_label word
 argument_fits kind word = true
 
 abbrev pub name_numerals : List (List ℕ) → List Numeral
-name_numerals (d ∷ n ∷ p ∷ []) = numeral 0 7 d ∷ numeral 0 15 n ∷ numeral 0 65535 p ∷ []
+name_numerals (d ∷ n ∷ p ∷ []) = numeral 0 last_domain d ∷ numeral 0 last_node n ∷ numeral 0 65535 p ∷ []
 name_numerals parts = []
 
 -- what has to be a number in it. `bits` is what the argument before it sets
 abbrev pub argument_numerals : ArgumentKind → (bits : ℕ) → List ℕ → List Numeral
 argument_numerals Port bits word = numeral 0 65535 word ∷ []
 argument_numerals Name bits word = name_numerals (parts_at 58 word)
-argument_numerals Priority bits word = numeral 0 3 word ∷ []
+argument_numerals Priority bits word = numeral 0 last_priority word ∷ []
 argument_numerals Maximum bits word = numeral 0 asked_limit word ∷ []
 argument_numerals ScalarBits bits word = record { admits = λ n. is_some (bits_of n); word = word } ∷ []
 argument_numerals ScalarValue bits word = numeral 0 (2 ^ bits - 1) word ∷ []
 argument_numerals Limit bits word = numeral 0 try_limit word ∷ []
-argument_numerals PeerDomain bits word = numeral 0 7 word ∷ []
+argument_numerals PeerDomain bits word = numeral 0 last_domain word ∷ []
 argument_numerals kind bits word = []
 
 -- what has to be bytes in it
@@ -358,9 +358,9 @@ tries_numerals (Some word) = numeral 1 try_limit word ∷ []
 
 abbrev pub numerals : LineParts → List Numeral
 numerals no_parts = []
-numerals (domain_parts d n p) = numeral 0 7 d ∷ numeral 1 16 n ∷ numeral 1 256 p ∷ []
-numerals (link_parts a b q) = numeral 0 7 a ∷ numeral 0 7 b ∷ numeral 0 18446744073709551615 q ∷ []
-numerals (call_parts c) = numeral 0 7 c.domain ∷ numeral 0 15 c.node ∷ (tries_numerals c.tries ++ arguments_numerals (form c.callee).arguments 0 c.arguments)
+numerals (domain_parts d n p) = numeral 0 last_domain d ∷ numeral 1 node_limit n ∷ numeral 1 pool_limit p ∷ []
+numerals (link_parts a b q) = numeral 0 last_domain a ∷ numeral 0 last_domain b ∷ numeral 0 18446744073709551615 q ∷ []
+numerals (call_parts c) = numeral 0 last_domain c.domain ∷ numeral 0 last_node c.node ∷ (tries_numerals c.tries ++ arguments_numerals (form c.callee).arguments 0 c.arguments)
 
 -- the words that have to be bytes
 abbrev pub arguments_contents : List ArgumentKind → List (List ℕ) → List Bytes

@@ -2,6 +2,7 @@
 -- Source: docs/FORMATS.md, "Scenario files".
 use Rattle.std.specs.Prelude.{ℕ, ◌*◌, ◌<◌, ◌≤◌, ◌^◌, List, [], ◌∷◌, ◌++◌, map, codes, decimal, Option, None, Some}
 use Rattle.std.specs.List.{flat_map}
+use Rattle.mc_base.specs.Limits.{last_domain, last_node, node_limit, pool_limit}
 use Rattle.mc_base.specs.Text.{hex_text}
 use Rattle.mc_base.specs.Letter.{bytes_of_bits}
 use Rattle.mc_base.specs.declared.name.EndName.{EndName}
@@ -125,12 +126,12 @@ canonical s = flat_map domain_text s.domains ++ (flat_map link_text s.links ++ f
 
 -- the ranges of a name
 abbrev pub IsLawfulName : EndName → Type 0
-IsLawfulName n = (n.domain ≤ 7) × (n.node ≤ 15) × (n.port < 2 ^ 16)
+IsLawfulName n = (n.domain ≤ last_domain) × (n.node ≤ last_node) × (n.port < 2 ^ 16)
 
 -- the ranges of a domain line
 pub record IsLawfulDomain (d : DomainLine) : Type 0 where
-  pub domain_fits : d.domain ≤ 7
+  pub domain_fits : d.domain ≤ last_domain
   pub some_nodes : 1 ≤ d.nodes
-  pub nodes_fit : d.nodes ≤ 16
+  pub nodes_fit : d.nodes ≤ node_limit
   pub some_pool : 1 ≤ d.pool
-  pub pool_fits : d.pool ≤ 256
+  pub pool_fits : d.pool ≤ pool_limit

@@ -2,7 +2,7 @@
 -- Source: docs/FORMATS.md, "Scenario files".
 use Rattle.std.specs.Prelude.{◌≡◌, ◌⊎◌, ℕ, ◌*◌, ◌≤◌, ◌<◌, ◌^◌, List, [], ◌∷◌, map, length, Contains}
 use Rattle.std.specs.List.{AllByRecursion}
-use Rattle.mc_base.specs.Limits.{asked_limit, longest_frame, try_limit}
+use Rattle.mc_base.specs.Limits.{asked_limit, longest_frame, try_limit, last_domain, last_node, ring_limit, last_priority}
 use Rattle.mc_base.specs.Letter.{bytes_of_bits}
 use Rattle.board_model.specs.declared.scenario.LinkLine.{LinkLine}
 use Rattle.board_model.specs.declared.scenario.Call.{Call}
@@ -26,7 +26,7 @@ pub record Joins (s : Scenario) (l : LinkLine) : Type 0 where
   pub device_told : IsTold s l.device
   pub two_domains : l.driver ≡ l.device → ⊥
   pub some_buffers : 1 ≤ l.size
-  pub buffers_fit : l.size ≤ 256
+  pub buffers_fit : l.size ≤ ring_limit
 
 -- two links of one pair, whichever of the two is the driver
 abbrev pub IsSamePair : LinkLine → LinkLine → Type 0
@@ -41,7 +41,7 @@ abbrev pub HasFitArguments : Call → Type 0
 HasFitArguments (Create port) = port < 2 ^ 16
 HasFitArguments (Delete port) = port < 2 ^ 16
 HasFitArguments (Lookup name) = IsLawfulName name
-HasFitArguments (MsgSend port to priority bytes) = (port < 2 ^ 16) × IsLawfulName to × (priority ≤ 3) × (length bytes ≤ asked_limit) × AllByRecursion (λ b. b < 256) bytes
+HasFitArguments (MsgSend port to priority bytes) = (port < 2 ^ 16) × IsLawfulName to × (priority ≤ last_priority) × (length bytes ≤ asked_limit) × AllByRecursion (λ b. b < 256) bytes
 HasFitArguments (MsgRecv port max) = (port < 2 ^ 16) × (max ≤ asked_limit)
 HasFitArguments (MsgRecvI port max) = (port < 2 ^ 16) × (max ≤ asked_limit)
 HasFitArguments (MsgAvailable port) = port < 2 ^ 16
@@ -60,7 +60,7 @@ HasFitArguments (Test label) = Unit {0}
 HasFitArguments (Wait label limit) = limit ≤ try_limit
 HasFitArguments (WaitAny labels limit) = (1 ≤ length labels.items) × (length labels.items ≤ group_limit) × (limit ≤ try_limit)
 HasFitArguments (Cancel label) = Unit {0}
-HasFitArguments (Raw domain bytes) = (domain ≤ 7) × (1 ≤ length bytes) × (length bytes ≤ longest_frame) × AllByRecursion (λ b. b < 256) bytes
+HasFitArguments (Raw domain bytes) = (domain ≤ last_domain) × (1 ≤ length bytes) × (length bytes ≤ longest_frame) × AllByRecursion (λ b. b < 256) bytes
 HasFitArguments Turn = Unit {0}
 
 pub record IsLinkedBoard (s : Scenario) : Type 0 where
@@ -69,6 +69,6 @@ pub record IsLinkedBoard (s : Scenario) : Type 0 where
   pub links_join : AllByRecursion (Joins s) s.links
   pub pairs_differ : PairsDiffer s.links
   pub lines_told : AllByRecursion (λ c. IsTold s c.domain) s.calls
-  pub nodes_fit : AllByRecursion (λ c. c.node ≤ 15) s.calls
+  pub nodes_fit : AllByRecursion (λ c. c.node ≤ last_node) s.calls
   pub arguments_fit : AllByRecursion (λ c. HasFitArguments c.call) s.calls
   pub lines_few : length s.calls < 2 ^ 32

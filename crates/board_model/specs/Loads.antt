@@ -1,10 +1,11 @@
 -- What is on the lanes of a board that runs, and turns whose looks show all of it.
 -- Source: docs/PROFILE.md, "Serial run".
 use Rattle.std.specs.Prelude.{ℕ, ◌+◌, min, ◌&&◌, ◌==◌, Bool, List, [], ◌∷◌, ◌++◌, length, take, drop, map, find, Option, None, Some, if◌then◌else◌}
+use Rattle.mc_base.specs.Limits.{turn_limit}
 use Rattle.board_model.specs.Scenario.{Lane}
 use Rattle.board_model.specs.Journal.{Visit}
 use Rattle.board_model.specs.State.{DomainState, Item, frames_from, peer_of}
-use Rattle.board_model.specs.Turn.{turn_limit, after_visit}
+use Rattle.board_model.specs.Turn.{after_visit}
 use Rattle.board_model.specs.Serial.{due_to, visit_of, returned_at_once}
 
 -- a lane, the frames put on it and not taken, and how many of its buffers were given back and not shown

@@ -5,6 +5,7 @@ use Rattle.std.specs.Prelude.{ℕ, Bool, true, false, not, ◌&&◌, ◌||◌, n
 use Rattle.byteorder.specs.Endian.{little_bytes}
 use Rattle.mc_base.specs.Letter.{PlainLetter, msg, connect, accept, reject, packet, scalar, send_close, bytes_of_bits}
 use Rattle.std.specs.List.{flat_map}
+use Rattle.mc_base.specs.Limits.{reply_limit}
 use Rattle.mc_base.specs.NameMap.{Names, names_limit, learned, forgotten, address_in}
 use Rattle.mc_base.specs.FullName.{endpoint_named}
 use Rattle.mc_base.specs.Reading.{Reading, is_faulty, announces, says, brings}
@@ -57,10 +58,6 @@ name_rows peer known (Some name) address false =
     ∷ last_row fate.Acted (names_known peer (forgotten name known) ∷ [])
 
 -- ---- a Connect, by the endpoint with its destination
-
--- how many replies may be owed to a peer at most
-abbrev pub reply_limit : ℕ
-reply_limit = 64
 
 abbrev pub replies_to : Option Peer → ℕ
 replies_to None = 0

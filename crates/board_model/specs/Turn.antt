@@ -1,15 +1,12 @@
 -- Turns: what a domain may do at its peers, one after the other, and the state that it leaves.
 -- Source: docs/PROFILE.md, "A turn". How much a look shows is left open, as far as the lane allows.
 use Rattle.std.specs.Prelude.{◌≡◌, ℕ, ◌+◌, ◌-◌, ◌≤◌, min, List, [], ◌∷◌, ◌++◌, length, take, map, Option, None, Some}
+use Rattle.mc_base.specs.Limits.{turn_limit}
 use Rattle.board_model.specs.Journal.{Visit, Taken}
 use Rattle.board_model.specs.State.{DomainState, Peer, peer_of, owed_to, held_from}
 use Rattle.board_model.specs.Deeds.{Deed, looks_back, puts_owed, looks_ahead, takes, after_deeds, AllMayDo}
 
--- the most owed frames that a turn puts to a peer, and the most frames that it takes from it
-abbrev pub turn_limit : ℕ
-turn_limit = 8
-
--- the owed frames that a visit puts: the first ones, as many as there are buffers free after the look
+-- the owed frames that a visit puts: the first ones, as many as there are buffers free after the look, up to the limit
 abbrev pub due_frames : ℕ → Peer → ℕ → List (List ℕ)
 due_frames domain p back = take (min turn_limit (p.free + back)) (owed_to domain p)
 

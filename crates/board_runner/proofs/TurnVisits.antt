@@ -2,11 +2,12 @@
 use Rattle.std.proofs.Common.{◌≡◌, ℕ, min, List, [], ◌∷◌, ◌++◌, length, take, Option, None, refl, sym, ap, ap₂, ◌∙◌}
 use Rattle.std.proofs.Math.Seq.{take-append_seam}
 use Rattle.std.proofs.lemmas.List.{length-map}
+use Rattle.mc_base.specs.Limits.{turn_limit}
 use Rattle.mc_base.specs.declared.fate.Fate.{Fate}
 use Rattle.board_model.specs.Journal.{Visit, Taken, taken}
 use Rattle.board_model.specs.State.{DomainState, Peer, peer_of}
 use Rattle.board_model.specs.Deeds.{takes, after_deed}
-use Rattle.board_model.specs.Turn.{turn_limit, IsVisit}
+use Rattle.board_model.specs.Turn.{IsVisit}
 use Rattle.board_model.specs.Serial.{dealt, due_to, visit_of}
 use Rattle.board_model.specs.Loads.{Load, returned_on, frames_due, frames_seen, visit_to}
 use Rattle.board_model.proofs.VisitLooks.{HaveWords, after_looks, visit-words}

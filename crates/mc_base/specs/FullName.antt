@@ -5,6 +5,7 @@ use Rattle.std.specs.Prelude.{ℕ, Bool, ◌&&◌, ◌==◌, nat_le, List, [], �
 use Rattle.std.specs.List.{slice_split}
 use Rattle.std.specs.Str.{bytes_eq}
 use Rattle.std.specs.Str.Parse.{digits_value}
+use Rattle.mc_base.specs.Limits.{last_node}
 use Rattle.mc_base.specs.declared.name.Local.{Local}
 use Rattle.mc_base.specs.declared.name.EndName.{EndName}
 
@@ -23,7 +24,7 @@ full_name n = codes "mcapi:" ++ (decimal n.domain ++ (colon ∷ (decimal n.node 
 
 -- a domain is 0 to 255, a node 0 to 15, and a port 0 to 65535
 abbrev pub is_in_range : EndName → Bool
-is_in_range n = nat_le n.domain 255 && (nat_le n.node 15 && nat_le n.port 65535)
+is_in_range n = nat_le n.domain 255 && (nat_le n.node last_node && nat_le n.port 65535)
 
 -- the endpoint whose numbers the parts between colons are, whatever else the parts say
 abbrev pub numbered : List (List ℕ) → Option EndName

@@ -2,7 +2,7 @@
 -- Source: the payload header of docs/FORMATS.md: magic, version, kind, argument (1 byte each), channel (4 bytes), and then the content.
 use Rattle.std.specs.Prelude.{◌≡◌, ℕ, ◌+◌, ◌*◌, ◌<◌, ◌≤◌, ◌^◌, List, [], ◌∷◌, ◌++◌, length, Option, Some, None}
 use Rattle.byteorder.specs.Endian.{little_bytes}
-use Rattle.mc_base.specs.Limits.{single_size, total_size, piece_size}
+use Rattle.mc_base.specs.Limits.{single_size, total_size, piece_size, last_priority}
 use Rattle.mc_base.specs.declared.channel.Kind.{Kind}
 use Rattle.mc_base.specs.declared.channel.Kind.TheVariants.{Packet, Scalar}
 use Rattle.mc_base.specs.declared.channel.Reason.{Reason}
@@ -98,7 +98,7 @@ IsChannel channel = (0 < channel) × (channel < 2 ^ 32)
 
 -- the letters that have a spelling
 abbrev pub HasSpelling : PlainLetter → Type 0
-HasSpelling (msg priority bytes) = (priority ≤ 3) × (length bytes ≤ single_size)
+HasSpelling (msg priority bytes) = (priority ≤ last_priority) × (length bytes ≤ single_size)
 HasSpelling (connect channel kind) = IsChannel channel
 HasSpelling (accept channel) = IsChannel channel
 HasSpelling (reject channel reason) = IsChannel channel
@@ -144,7 +144,7 @@ piece_spelling p = spelled (fields_of_piece p)
 
 -- the parts that have a spelling: at least one byte, within the whole
 abbrev pub IsCarrier : Carrier → Type 0
-IsCarrier (of_message priority) = priority ≤ 3
+IsCarrier (of_message priority) = priority ≤ last_priority
 IsCarrier (of_packet channel) = IsChannel channel
 
 pub record HasPieceSpelling (p : Piece) : Type 0 where

@@ -1,14 +1,20 @@
 -- The numbers that the definitions rest on.
 -- Source: the limits of docs/PROFILE.md, the RPMsg headers of Linux, and VIRTIO 1.2, section 2.7.
-use Rattle.std.specs.Prelude.{ℕ, ◌+◌}
+use Rattle.std.specs.Prelude.{ℕ, ◌+◌, ◌-◌}
 
--- the most domains of a board
+-- the most domains of a board, and the highest number of one: they are numbered from 0
 abbrev pub domain_limit : ℕ
 domain_limit = 8
 
--- the most nodes of a domain
+abbrev pub last_domain : ℕ
+last_domain = domain_limit - 1
+
+-- the most nodes of a domain, and the highest number of one
 abbrev pub node_limit : ℕ
 node_limit = 16
+
+abbrev pub last_node : ℕ
+last_node = node_limit - 1
 
 -- the most buffers of a ring, and of a domain's own pool
 abbrev pub ring_limit : ℕ
@@ -98,6 +104,10 @@ request_limit = 64
 -- the key that no request has
 abbrev pub no_key : ℕ
 no_key = 4294967295
+
+-- the highest number of a priority: they are numbered from 0
+abbrev pub last_priority : ℕ
+last_priority = 3
 
 -- the most bytes that a line of a scenario sends or asks for
 abbrev pub asked_limit : ℕ

@@ -1,4 +1,5 @@
 ghost use Rattle.std.specs.Prelude.{◌≡◌, ◌≤◌, ◌<◌, ℕ, IfSome, IsNone, ◌↔◌};
+ghost use Rattle.mc_base.specs.Limits.{last_priority};
 
 use std::marker::Model;
 
@@ -13,7 +14,7 @@ impl Model for Priority {
 
     ghost view = { λ p. p.number };
 
-    ghost invariant = { λ p. p.number ≤ 3 };
+    ghost invariant = { λ p. p.number ≤ last_priority };
 
     ghost inverse = { λ n. record { number = n } };
 }
@@ -21,7 +22,7 @@ impl Model for Priority {
 impl Priority {
     /// Returns the priority with this number, or `None` for a number above 3.
     pub fn new(n: u8) -> Option<Priority>
-        ensures none { IsNone result ↔ (3 < n) }
+        ensures none { IsNone result ↔ (last_priority < n) }
         ensures value { IfSome result (λ p. p ≡ n) }
     {
         if n > 3 {
@@ -33,7 +34,7 @@ impl Priority {
     /// Returns the number, 0 to 3.
     pub fn number(self) -> u8
         ensures value { result ≡ self }
-        ensures range { result ≤ 3 }
+        ensures range { result ≤ last_priority }
     {
         self.number
     }

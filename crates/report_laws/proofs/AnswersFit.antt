@@ -4,13 +4,13 @@ use Rattle.std.specs.List.{AllByRecursion}
 use Rattle.std.proofs.lemmas.Bool.{leb-false}
 use Rattle.byteorder.specs.Endian.{little_number}
 use Rattle.mc_base.specs.Letter.{bytes_of_bits}
-use Rattle.mc_base.specs.Limits.{creation_limit}
+use Rattle.mc_base.specs.Limits.{creation_limit, channel_limit}
 use Rattle.mc_base.specs.declared.channel.Bits.{Bits}
 use Rattle.mc_base.specs.declared.channel.Bits.TheVariants.{B8, B16, B32, B64}
 use Rattle.mc_base.specs.declared.channel.Side.TheVariants.{Sender, Receiver}
 use Rattle.mc_base.specs.declared.name.Local.{Local}
 use Rattle.mc_base.specs.declared.refusal.Refusal.{Refusal}
-use Rattle.board_model.specs.Answer.{local, is_complete_at, first_complete, place_said, channel_limit, holds, words_of, refusal, lent_whole, value_of, given, given_to, result_by, result_of, success, answer_by, answer}
+use Rattle.board_model.specs.Answer.{local, is_complete_at, first_complete, place_said, holds, words_of, refusal, lent_whole, value_of, given, given_to, result_by, result_of, success, answer_by, answer}
 use Rattle.board_model.specs.Choice.{best, oldest}
 use Rattle.board_model.specs.DomainCall.{DomainCall, create_at, delete_at, lookup_of, send_from, receive_at, request_at, available_at, connect_from, open_at, packet_from, lend_at, packet_request_at, release_of, scalar_from, scalar_at, close_at, test_of, wait_for, cancel_of, raw_to, turn_alone}
 use Rattle.board_model.specs.State.{Item, Endpoint, Asked, name_of, channel_of, message_at, packet_at, Outcome, has_address, is_accepted, is_rejected, has_item, has_ended, Request, DomainState, is_at, live_at, queue_in, queue_at, request_at_place}

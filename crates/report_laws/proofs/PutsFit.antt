@@ -2,6 +2,7 @@
 use Rattle.std.proofs.Common.{◌≡◌, ℕ, ◌+◌, ◌^◌, ◌<◌, min, List, [], ◌∷◌, ◌++◌, Option, Some, None, option_map, sym, subst}
 use Rattle.std.specs.Prelude.{IsSome}
 use Rattle.std.specs.List.{AllByRecursion}
+use Rattle.mc_base.specs.Limits.{turn_limit}
 use Rattle.board_model.specs.declared.scenario.CallLine.{CallLine}
 use Rattle.board_model.specs.Answer.{puts}
 use Rattle.board_model.specs.Journal.{PlainEntry, turned, put, again, waits, called, Visit}
@@ -9,7 +10,7 @@ use Rattle.board_model.specs.LinkedBoard.{HasFitArguments}
 use Rattle.board_model.specs.Run.{after_all}
 use Rattle.board_model.specs.State.{DomainState, owed_to}
 use Rattle.board_model.specs.Step.{RunState, HasNoPuts, next_line, call_at, limit_of, MayCome, Allowed, effect_of_line, after}
-use Rattle.board_model.specs.Turn.{turn_limit, AreVisits, after_visit, after_turn}
+use Rattle.board_model.specs.Turn.{AreVisits, after_visit, after_turn}
 use Rattle.board_model.proofs.MessageAlls.{all-at, all-parts}
 use Rattle.board_model.proofs.RunDeeds.{AllAllowed}
 use Rattle.mc_journal.specs.EntryText.{AreBytes}

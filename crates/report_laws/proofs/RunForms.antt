@@ -3,6 +3,7 @@ use Rattle.std.proofs.Common.{◌≡◌, ℕ, suc, ◌+◌, Bool, true, false, c
 use Rattle.std.specs.Prelude.{find, is_some, IsSome, ◌==◌, ◌||◌}
 use Rattle.std.specs.List.{AllByRecursion}
 use Rattle.std.proofs.lemmas.List.{length_push}
+use Rattle.mc_base.specs.Limits.{turn_limit}
 use Rattle.board_model.specs.declared.scenario.CallLine.{CallLine}
 use Rattle.board_model.specs.declared.scenario.DomainLine.{DomainLine}
 use Rattle.board_model.specs.declared.scenario.Scenario.{Scenario}
@@ -12,7 +13,7 @@ use Rattle.board_model.specs.Answer.{puts}
 use Rattle.board_model.specs.Journal.{Visit, PlainEntry, turned, put, again, waits, called}
 use Rattle.board_model.specs.JournalForm.{IsFrom}
 use Rattle.board_model.specs.Unjoined.{line_numbered, puts_of, peers_of}
-use Rattle.board_model.specs.Turn.{turn_limit, nameless, visit_deeds, after_visit, AreVisits, after_turn}
+use Rattle.board_model.specs.Turn.{nameless, visit_deeds, after_visit, AreVisits, after_turn}
 use Rattle.board_model.specs.Step.{RunState, HasNoPuts, Allowed, next_line, call_at, limit_of, MayCome, effect_of_line, after}
 use Rattle.board_model.specs.Run.{start, Leads, left_by, IsDomainRun}
 use Rattle.board_model.proofs.DeedJoins.{deeds-numbers}

@@ -5,8 +5,8 @@ use Rattle.std.specs.List.{AllByRecursion, flat_map, list_all}
 use Rattle.std.proofs.lemmas.Bool.{and_from}
 use Rattle.std.proofs.lemmas.Bool.Decides.{nat_tests}
 use Rattle.std.proofs.lemmas.List.{length-map}
+use Rattle.mc_base.specs.Limits.{turn_limit}
 use Rattle.board_model.specs.Journal.{Taken, Visit, Line, back_line, put_line, see_line, looked, taken_line, visit_lines, is_idle}
-use Rattle.board_model.specs.Turn.{turn_limit}
 use Rattle.board_model.proofs.BoardsRising.{AreRising}
 use Rattle.board_model.proofs.MessageAlls.{all-append, all-weaken}
 use Rattle.report_text.specs.declared.outline.Outline.{Outline}

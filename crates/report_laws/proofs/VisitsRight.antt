@@ -3,12 +3,13 @@ use Rattle.std.proofs.Common.{◌≡◌, ℕ, ◌+◌, ◌-◌, ◌≤◌, min, 
 use Rattle.std.specs.Prelude.{nat_lt, replicate}
 use Rattle.std.proofs.lemmas.Bool.Decides.{nat_tests}
 use Rattle.std.proofs.lemmas.List.{take_at}
+use Rattle.mc_base.specs.Limits.{turn_limit}
 use Rattle.mc_base.specs.declared.fate.Fate.{Fate}
 use Rattle.board_model.specs.Journal.{Taken, taken, Visit}
 use Rattle.board_model.specs.State.{DomainState, Peer, held_from}
 use Rattle.board_model.specs.TakenFrames.{row_from}
 use Rattle.board_model.specs.Deeds.{takes, after_deed}
-use Rattle.board_model.specs.Turn.{turn_limit, due_frames, IsVisit, AreVisits, after_visit}
+use Rattle.board_model.specs.Turn.{due_frames, IsVisit, AreVisits, after_visit}
 use Rattle.board_model.proofs.VisitLooks.{HaveWords, after_looks, visit-words}
 use Rattle.report_text.specs.StepPass.{due_back, due_see, frames_coming, due_takes, due_with, due_at, due_visit, due_visits}
 
