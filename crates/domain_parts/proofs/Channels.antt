@@ -4,7 +4,7 @@ use Rattle.std.specs.Prelude.{Result, Ok, Err, find, nat_le, nat_lt, not, option
 use Rattle.std.specs.List.{list_any}
 use Rattle.std.proofs.lemmas.List.{length-map}
 use Rattle.mc_base.specs.Letter.{PlainLetter}
-use Rattle.mc_base.specs.Limits.{request_limit}
+use Rattle.mc_base.specs.Limits.{request_limit, channel_limit}
 use Rattle.mc_base.specs.declared.channel.Kind.{Kind}
 use Rattle.mc_base.specs.declared.channel.Side.{Side}
 use Rattle.mc_base.specs.declared.name.EndName.{EndName}
@@ -13,7 +13,7 @@ use Rattle.mc_base.specs.declared.refusal.Refusal.{Refusal}
 use Rattle.mc_base.specs.declared.refusal.Refusal.TheVariants.{AlreadyOpen, ChanClosed, ChanConnected, ChanDirection, ChanLimit, ChanType, EndpBusy, EndpInvalid, NoBuffer, NotConnected, NotOpen, PeerInvalid, RequestLimit}
 use Rattle.mc_base.specs.declared.request.RequestId.{RequestId}
 use Rattle.board_model.proofs.MessageLists.{get-position}
-use Rattle.board_model.specs.Answer.{address_of, channel_at, channel_limit, end_holds, has_channel, lacks_buffers, local, over_channel, over_end, post, refusal, success_puts}
+use Rattle.board_model.specs.Answer.{address_of, channel_at, end_holds, has_channel, lacks_buffers, local, over_channel, over_end, post, refusal, success_puts}
 use Rattle.board_model.specs.ChannelEnds.{EndCall, closes, end_refusal, end_refuses, opened_end, opens}
 use Rattle.board_model.specs.DomainCall.{close_at, connect_from, open_at}
 use Rattle.board_model.specs.State as state

@@ -5,6 +5,7 @@ use Rattle.std.specs.List.{list_any}
 use Rattle.std.specs.Prelude.{◌||◌, ◌==◌, find, is_some, nat_le, not, option_and_then, option_map, position, slice_get}
 use Rattle.std.proofs.lemmas.List.{length-map}
 use Rattle.std.proofs.lemmas.Option.{slice_get-map, slice_get_within}
+use Rattle.mc_base.specs.Limits.{reply_limit}
 use Rattle.mc_base.specs.Letter.{Piece, PlainLetter, msg, piece_in, plain_letter, saying_by, saying_of}
 use Rattle.mc_base.specs.NameMap.{Names, address_in, forgotten, has_name}
 use Rattle.mc_base.specs.Reading.{Reading, brings as brings_part, reading, says, says_so}
@@ -22,7 +23,7 @@ use Rattle.board_model.specs.Parts.{Came, part_of}
 use Rattle.board_model.specs.State as state
 use Rattle.board_model.specs.State.{DomainState, Item, endpoint_of, has_address_of, peer_at, place_of_address}
 use Rattle.board_model.specs.TakenFrames as taken
-use Rattle.board_model.specs.TakenFrames.{Row, accepting, connect_rows, first_row, is_busy, letter_rows, rejecting, replies_to, reply_limit, row, row_from, row_of}
+use Rattle.board_model.specs.TakenFrames.{Row, accepting, connect_rows, first_row, is_busy, letter_rows, rejecting, replies_to, row, row_from, row_of}
 use Rattle.board_model.proofs.MessageLists.{get-position, some-position}
 use Rattle.board_model.proofs.WholeFrames.{came_alone, row-alone}
 use Rattle.buffer_book.specs.Book.{Book}

@@ -1,11 +1,12 @@
 -- What a domain does at one of its peers in a turn, from inside: its steps are these deeds, and these moves at the ends towards the peer.
 -- Source: docs/PROFILE.md, "A turn". The numbers of the buffers of taken frames, which no entry tells, stand beside them.
 use Rattle.std.specs.Prelude.{◌≡◌, ℕ, Bool, not, ◌||◌, ◌==◌, List, ◌++◌, length, map, min}
+use Rattle.mc_base.specs.Limits.{turn_limit}
 use Rattle.mc_base.specs.declared.request.RequestId.{RequestId}
 use Rattle.board_model.specs.Deeds.{AllMayDo, Deed, after_deeds, puts_owed}
 use Rattle.board_model.specs.Journal.{Line, Taken, Visit, taken_line}
 use Rattle.board_model.specs.State.{owed_to}
-use Rattle.board_model.specs.Turn.{IsVisit, takes_named, turn_limit}
+use Rattle.board_model.specs.Turn.{IsVisit, takes_named}
 use Rattle.board_model.specs.Unnamed.{unnamed}
 use Rattle.domain_parts.specs.Beginning.{has_begun, told_of}
 use Rattle.domain_parts.specs.LaneMoves.{LaneMove}

@@ -3,7 +3,7 @@
 use Rattle.std.specs.Prelude.{◌≤◌, ◌<◌}
 use Rattle.std.specs.List.{AllByRecursion}
 use Rattle.std.specs.VecDeque.{deque_capacity}
-use Rattle.board_model.specs.TakenFrames.{reply_limit}
+use Rattle.mc_base.specs.Limits.{reply_limit}
 use Rattle.domain_parts.specs.declared.replies.Replies.TheInside.{Inside}
 
 -- there is room for the most that are ever owed, and each is of a channel that has a number

@@ -3,9 +3,8 @@
 ghost use Rattle.std.specs.Prelude.{◌≡◌, ◌≤◌, ◌<◌, ◌+◌, [], false, IfOk, IfSome, IsNone, ◌^◌, ◌==◌, filter, find, length, map, sum_by, count_by, is_some, position, slice_get, Some, nat_le, option_map, vec_capacity};
 ghost use Rattle.std.specs.List.{AllByRecursion};
 ghost use Rattle.std.specs.Ordering.{nat_cmp};
-ghost use Rattle.mc_base.specs.Limits.{first_address};
+ghost use Rattle.mc_base.specs.Limits.{first_address, channel_limit};
 ghost use Rattle.board_model.specs.State.{address_at, place_at, place_of_address, queue_in};
-ghost use Rattle.board_model.specs.Answer.{channel_limit};
 ghost use Rattle.board_model.specs.Choice.{best, oldest};
 ghost use Rattle.buffer_book.specs.Book.{Book};
 ghost use Rattle.message_queue.specs.Queue.{waiting};
@@ -19,14 +18,13 @@ ghost use Rattle.domain_parts.specs.InTable.{AreInOrder, IsKept, IsNumbered, IsS
 ghost use Rattle.domain_parts.specs.Tied.{live_record};
 
 use endpoint_table::EndpointTable;
-use mc_base::{FIRST_ADDRESS, Local, MAX_ENDPOINTS, NoMemory, PacketId, Priority, Side, Slot};
+use mc_base::{
+    FIRST_ADDRESS, Local, MAX_CHANNELS, MAX_ENDPOINTS, NoMemory, PacketId, Priority, Side, Slot,
+};
 use message_queue::MessageQueue;
 use packet_channel::Channel;
 use std::alloc::Global;
 use std::marker::Model;
-
-/// The most channels that a domain ever numbers.
-const MAX_CHANNELS: u32 = 65_535;
 
 /// An endpoint, the buffers that wait for it, and its end of a channel, which is none where both ends are closed.
 #[derive(Debug, Drop)]

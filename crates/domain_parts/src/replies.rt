@@ -1,7 +1,7 @@
 //! The replies that are owed to a peer.
 
 ghost use Rattle.std.specs.Prelude.{◌≡◌, ◌<◌, ◌==◌, [], ◌∷◌, ◌++◌, IfOk, IfSome, drop, length, nat_le, slice_get};
-ghost use Rattle.board_model.specs.TakenFrames.{reply_limit};
+ghost use Rattle.mc_base.specs.Limits.{reply_limit};
 
 use mc_base::{MAX_OWED_REPLIES, NoMemory, Reason};
 use std::alloc::Global;

@@ -7,7 +7,7 @@ use Rattle.std.proofs.lemmas.Bool.{eq-eqb, ne_eqb}
 use Rattle.std.proofs.lemmas.List.{take-replicate, get_or-set_same, get_or-set_other}
 use Rattle.std.proofs.lemmas.List.Sums.{sum_by_push}
 use Rattle.std.proofs.lemmas.List.Concat.{flat_map-append}
-use Rattle.board_model.specs.Turn.{turn_limit}
+use Rattle.mc_base.specs.Limits.{turn_limit}
 use Rattle.report_text.specs.LaneLines.{LaneLine, came_back, puts, shows, takes, nothing, back_in}
 use Rattle.report_text.specs.StepPass.{frames_coming}
 use Rattle.report_check.specs.ToldTurns.{frame_on, frame_told, HasShortLines, peer_on, see_in, frames_in, IsToldOn, AreToldPeers, with_line, told_with}

@@ -4,8 +4,8 @@ use Rattle.std.specs.Prelude.{sum_by, option_map, option_to_list, ◌==◌}
 use Rattle.std.specs.List.{flat_map}
 use Rattle.std.proofs.lemmas.List.{map-append}
 use Rattle.std.proofs.lemmas.List.Sums.{sum_by-cons}
+use Rattle.mc_base.specs.Limits.{turn_limit}
 use Rattle.board_model.specs.Journal.{Line, idle_line, again_line, spin_line, turn_line, back_line, put_line, see_line, take_line, wait_line, call_line, taken}
-use Rattle.board_model.specs.Turn.{turn_limit}
 use Rattle.board_model.specs.Unjoined as plain
 use Rattle.board_model.specs.Unjoined.{visit_in, takes_in}
 use Rattle.mc_journal.specs.LineForms.{line_in}

@@ -2,13 +2,14 @@
 use Rattle.std.proofs.Common.{◌≡◌, ℕ, zero, suc, ◌+◌, ◌-◌, ◌≤◌, min, arith, take, replicate, Bool, true, false, cond, List, [], ◌∷◌, ◌++◌, length, map, drop, None, Some, IfOk, Result, Ok, Err, refl, sym, ap, ◌∙◌, subst, eq-eqb}
 use Rattle.std.specs.Prelude.{option_map, ◌==◌, nat_lt}
 use Rattle.std.proofs.lemmas.Bool.{cond_both}
+use Rattle.mc_base.specs.Limits.{turn_limit}
 use Rattle.mc_base.specs.declared.fate.Fate.{Fate}
 use Rattle.board_model.specs.Journal.{Line, put_line, take_line, taken_line, looked, back_line, see_line, Taken, taken, Visit, visit_lines}
 use Rattle.board_model.specs.State.{Peer, DomainState, peer_of, held_from}
 use Rattle.board_model.specs.Change.{first_put, owed_put, buffers_back, changed}
 use Rattle.board_model.specs.TakenFrames.{row_from}
 use Rattle.board_model.specs.Deeds.{Deed, looks_back, puts_owed, looks_ahead, takes, after_deed, after_deeds}
-use Rattle.board_model.specs.Turn.{turn_limit, due_frames, nameless, takes_named, visit_deeds}
+use Rattle.board_model.specs.Turn.{due_frames, nameless, takes_named, visit_deeds}
 use Rattle.board_model.proofs.DeedJoins.{after-join}
 use Rattle.board_model.proofs.LanePeers.{peer_found, peer-changed}
 use Rattle.report_text.specs.StepPass.{due_back, due_see, frames_coming, due_takes, due_at, due_visit}

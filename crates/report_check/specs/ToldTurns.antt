@@ -1,9 +1,9 @@
 -- What the lines of a turn tell of each peer, as it is kept while the turn that is due is made.
 use Rattle.std.specs.Prelude.{◌≡◌, ℕ, ◌+◌, ◌^◌, ◌<◌, ◌≤◌, min, nat_le, List, [], ◌∷◌, length, map, get_or, set, sum_by, Option, None, Some, option_map, ◌==◌, if◌then◌else◌}
 use Rattle.std.specs.List.{AllByRecursion, flat_map}
+use Rattle.mc_base.specs.Limits.{turn_limit}
 use denote.Bor.{Bor}
 use Rattle.board_model.specs.Journal.{Line, Visit}
-use Rattle.board_model.specs.Turn.{turn_limit}
 use Rattle.board_model.specs.Unjoined.{visit_in}
 use Rattle.mc_journal.specs.LineForms.{line_in}
 use Rattle.report_text.specs.LaneLines.{LaneLine, came_back, shows, takes as takes_frame, lane_of, back_in}

@@ -2,12 +2,13 @@
 use Rattle.std.proofs.Common.{◌≡◌, ℕ, zero, suc, ◌+◌, ◌-◌, ◌≤◌, min, Bool, true, false, cond, List, [], ◌∷◌, ◌++◌, length, map, Some, None, refl, sym, ap, subst, ◌∙◌, arith, length-append, length-take}
 use Rattle.std.specs.Prelude.{nat_lt, replicate}
 use Rattle.std.proofs.lemmas.Bool.Decides.{nat_tests}
+use Rattle.mc_base.specs.Limits.{turn_limit}
 use Rattle.board_model.specs.Journal.{Visit}
 use Rattle.board_model.specs.State.{DomainState, Peer, peer_of, held_from}
 use Rattle.board_model.specs.TakenFrames.{row_from}
 use Rattle.board_model.specs.Deeds.{takes, after_deed, after_deeds}
 use Rattle.board_model.specs.Serial.{looks_deeds}
-use Rattle.board_model.specs.Turn.{turn_limit, due_frames, IsVisit}
+use Rattle.board_model.specs.Turn.{due_frames, IsVisit}
 use Rattle.board_model.proofs.VisitLooks.{HaveWords, visit-may}
 use Rattle.report_text.specs.StepPass.{due_back, due_see, frames_coming, due_takes, due_at}
 use Rattle.report_text.specs.RightRuns.{DueIsAllowed}

@@ -3,6 +3,7 @@
 -- the line behind where some are missing at the end; so too at the puts of a call and its answer, which is told as text.
 use Rattle.std.specs.Prelude.{ℕ, ◌+◌, ◌-◌, min, nat_lt, nat_le, Bool, not, ◌&&◌, ◌||◌, List, [], ◌∷◌, ◌++◌, length, map, take, drop, replicate, ◌==◌, Option, None, Some, if◌then◌else◌}
 use Rattle.std.specs.List.{flat_map}
+use Rattle.mc_base.specs.Limits.{turn_limit}
 use Rattle.board_model.specs.declared.scenario.CallLine.{CallLine}
 use Rattle.board_model.specs.declared.scenario.Scenario.{Scenario}
 use Rattle.board_model.specs.Scenario.{script}
@@ -10,7 +11,7 @@ use Rattle.board_model.specs.Journal.{PlainAnswer, refuses, Taken, taken, Visit,
 use Rattle.board_model.specs.State.{DomainState, Peer, peer_of, held_from}
 use Rattle.board_model.specs.TakenFrames.{row_from}
 use Rattle.board_model.specs.Deeds.{looks_back, puts_owed, looks_ahead, takes, after_deed, after_deeds}
-use Rattle.board_model.specs.Turn.{turn_limit, due_frames, after_visit}
+use Rattle.board_model.specs.Turn.{due_frames, after_visit}
 use Rattle.board_model.specs.Answer.{answer, puts}
 use Rattle.board_model.specs.Step.{RunState, Waited, next_line, call_at, tries_again, limit_of, is_timeout, is_done, after}
 use Rattle.board_model.specs.Run.{start, after_all}

@@ -3,7 +3,7 @@
 -- order back, put, see, take, with one look of each kind. Behind a look at frames stand the first 8 of those that it showed, or all.
 use Rattle.std.specs.Prelude.{ℕ, ◌+◌, ◌-◌, min, Bool, true, false, ◌&&◌, ◌||◌, List, [], ◌∷◌, length, ◌==◌, nat_lt, Option, None, Some, if◌then◌else◌}
 use Rattle.std.specs.List.{list_any}
-use Rattle.board_model.specs.Turn.{turn_limit}
+use Rattle.mc_base.specs.Limits.{turn_limit}
 use Rattle.report_text.specs.declared.outline.Outline.{Outline}
 use Rattle.report_text.specs.declared.outline.Outline.TheVariants.{Back, Put, See, Take}
 use Rattle.report_text.specs.TextLines.{moved}

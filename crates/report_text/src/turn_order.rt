@@ -1,7 +1,7 @@
 //! The lines under a line: those of a turn, in their order, and the puts of a call behind them.
 
 ghost use Rattle.std.specs.Prelude.{◌≡◌, ◌<◌, ◌≤◌, ◌^◌, None, IfSome, length};
-ghost use Rattle.board_model.specs.Turn.{turn_limit};
+ghost use Rattle.mc_base.specs.Limits.{turn_limit};
 ghost use Rattle.report_text.specs.TurnOrder.{comes_after as is_after, impossible_place as first_impossible, is_at_peer as at_peer, is_next as stands_next, is_peer as has_peer, is_possible as may_stand, is_put as puts, is_under as stands_under, may_follow as follows, order_place as first_unordered, own_count as own_lines, own_place as own_wrong, part_in, peer_in, puts_first as first_puts, puts_last as last_puts, shown_at, takes_due as due_takes, under_place as first_wrong};
 
 use crate::outline::Outline;

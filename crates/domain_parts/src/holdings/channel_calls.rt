@@ -2,9 +2,9 @@
 
 ghost use Rattle.std.specs.Prelude.{◌≡◌, ◌<◌, ◌≤◌, ◌+◌, ◌∷◌, [], ◌||◌, ◌==◌, None, Ok, Some, length, map, nat_le, not, option_map};
 ghost use Rattle.mc_base.specs.Letter.{saying_of, whole};
-ghost use Rattle.mc_base.specs.Limits.{request_limit};
+ghost use Rattle.mc_base.specs.Limits.{request_limit, channel_limit};
 ghost use Rattle.mc_base.specs.declared.refusal.Refusal.TheVariants.{ChanClosed};
-ghost use Rattle.board_model.specs.Answer.{channel_at, channel_limit, closing_letter, opening_letter, puts};
+ghost use Rattle.board_model.specs.Answer.{channel_at, closing_letter, opening_letter, puts};
 ghost use Rattle.board_model.specs.ChannelEnds.{connecting_end};
 ghost use Rattle.board_model.specs.DomainCall.{close_at, connect_from, open_at};
 ghost use Rattle.board_model.specs.Journal.{noted_all};

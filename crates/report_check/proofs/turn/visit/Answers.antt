@@ -1,9 +1,9 @@
 use Rattle.std.proofs.Common.{◌≡◌, ◌≤◌, ◌-◌, min, true, false, take, map, sym, ap, ◌∙◌, subst, arith}
 use Rattle.std.proofs.lemmas.List.{take-map}
+use Rattle.mc_base.specs.Limits.{turn_limit}
 use Rattle.board_model.specs.Journal.{Visit, back_line, see_line, looked}
 use Rattle.board_model.specs.Deeds.{looks_ahead, looks_back}
 use Rattle.board_model.specs.State.{held_from}
-use Rattle.board_model.specs.Turn.{turn_limit}
 use Rattle.board_model.specs.Unjoined.{visit_in}
 use Rattle.report_text.specs.StepPass.{due_back, due_see, frames_coming}
 use Rattle.report_check.specs.Meeting.{Meets}
