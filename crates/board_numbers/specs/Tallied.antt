@@ -2,6 +2,7 @@
 -- Source: docs/FORMATS.md, "Report".
 use Rattle.std.specs.Prelude.{◌≡◌, ℕ, ◌<◌, List, [], ◌∷◌, ◌++◌, map, sum_by, find, slice_get, Option, Some, IsSome, option_map}
 use Rattle.std.specs.List.{AllByRecursion}
+use Rattle.mc_base.specs.Limits.{domain_limit}
 use Rattle.board_model.specs.declared.totals.LanePlaces.{LanePlaces}
 use Rattle.board_model.specs.declared.totals.Totals.{Totals}
 use Rattle.board_model.specs.declared.scenario.Scenario.{Scenario}
@@ -28,7 +29,7 @@ places_held n s = record { queue = queued_from n s; lent = lent_from n s }
 -- what a domain in this state holds
 pub record AreHeld (s : DomainState) (h : HeldBuffers) : Type 0 where
   pub queued : h.queued ≡ sum_by messages_at s.endpoints
-  pub places : (n : ℕ) → n < 8 → IsSome (peer_of s n) → slice_get h.places n ≡ Some (places_held n s)
+  pub places : (n : ℕ) → n < domain_limit → IsSome (peer_of s n) → slice_get h.places n ≡ Some (places_held n s)
 
 pub record IsTally (s : Scenario) (t : Station) (y : Tally) : Type 0 where
   pub counts : AreCounts y.counts (joined t.entries)

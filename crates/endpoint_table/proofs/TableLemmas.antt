@@ -5,7 +5,7 @@ use Rattle.std.specs.List.{AllByRecursion, list_any}
 use Rattle.std.specs.VecDeque.{deque_capacity}
 use Rattle.std.specs.Vec.{with_items}
 use Rattle.std.proofs.lemmas.List.{length_push, length-map, with_items_is}
-use Rattle.mc_base.specs.Limits.{record_limit, creation_limit, first_address}
+use Rattle.mc_base.specs.Limits.{record_limit, creation_limit, first_address, announcement_limit}
 use Rattle.mc_base.specs.declared.name.Local.{Local}
 use Rattle.mc_base.specs.NameMap.{learned, forgotten}
 use Rattle.endpoint_table.specs.declared.record.Record.{Record}
@@ -50,7 +50,7 @@ owing-none : (peers : List ℕ) → owing_in [] (map debt_of_none peers) ≡ map
 owing-none [] = refl
 owing-none (p ∷ ps) = ap (λ (os : List Owing). nothing_owed p ∷ os) (owing-none ps)
 
-pub kept-new : (t : Inside) (peers : List ℕ) → t.records.items ≡ [] → t.live ≡ [] → t.events.items ≡ [] → t.debts.items ≡ map debt_of_none peers → t.given ≡ 0 → record_limit ≤ vec_capacity t.records → record_limit + record_limit ≤ deque_capacity t.events → IsKept t
+pub kept-new : (t : Inside) (peers : List ℕ) → t.records.items ≡ [] → t.live ≡ [] → t.events.items ≡ [] → t.debts.items ≡ map debt_of_none peers → t.given ≡ 0 → record_limit ≤ vec_capacity t.records → announcement_limit ≤ deque_capacity t.events → IsKept t
 kept-new t peers records live events debts given record_room event_room =
     let next : first_address + 0 ≡ first_address = omega arith in
     let orderly : IsOrderly [] [] (first_address + 0) = record { rising = tt; below = tt; from = first_address; ordered = sym next; weighed = omega arith; marked = tt } in
@@ -136,7 +136,7 @@ owing-after es e ds tight = owing-settled (es ++ e ∷ []) (map one_more ds) (wi
 
 -- ---- a creation
 
-pub room-to-create : (t : Inside) → IsKept t → length t.records.items < record_limit → length t.events.items < record_limit + record_limit
+pub room-to-create : (t : Inside) → IsKept t → length t.records.items < record_limit → length t.events.items < announcement_limit
 room-to-create t k few = let o = k.orderly in omega (arith, o.weighed, most_owed-most o.from t.records.items)
 
 pub kept-created : (t u : Inside) (r : Record) (e : Announced) → IsKept t → HasBounds r → find (is_live_at r.local) t.records.items ≡ None → u.domain ≡ t.domain → u.live ≡ learned (name_in t.domain r.local) r.address t.live → length t.records.items < record_limit → t.given < creation_limit → r.address ≡ first_address + t.given → r.live ≡ true → e.address ≡ first_address + t.given → e.create ≡ true → u.debts.items ≡ map one_more t.debts.items → u.events.items ≡ settled_events (t.events.items ++ e ∷ []) (map one_more t.debts.items) → u.records.items ≡ settled_records (t.records.items ++ r ∷ []) (t.events.items ++ e ∷ []) (map one_more t.debts.items) → record_limit ≤ vec_capacity u.records → deque_capacity u.events ≡ deque_capacity t.events → u.given ≡ t.given + 1 → IsKept u
@@ -190,7 +190,7 @@ view-created t u local r e k is told debts events records given domain nodes =
 
 -- ---- an end
 
-pub room-to-end : (t : Inside) (local : Local) (r : Record) → IsKept t → find (is_live_at local) t.records.items ≡ Some r → length t.events.items < record_limit + record_limit
+pub room-to-end : (t : Inside) (local : Local) (r : Record) → IsKept t → find (is_live_at local) t.records.items ≡ Some r → length t.events.items < announcement_limit
 room-to-end t local r k found =
     let o = k.orderly in
     omega (arith, k.few, o.weighed, most_owed-ended o.from local t.records.items r found, most_owed-most o.from (map (ended r.address) t.records.items), length-map t.records.items (ended r.address))

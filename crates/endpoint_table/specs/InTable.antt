@@ -3,7 +3,7 @@
 use Rattle.std.specs.Prelude.{◌≡◌, ◌<◌, ◌≤◌, ◌+◌, ◌-◌, ◌⊎◌, ⊤, ℕ, Bool, true, false, not, nat_le, ◌==◌, List, [], ◌∷◌, length, map, filter, drop, vec_capacity, if◌then◌else◌}
 use Rattle.std.specs.List.{AllByRecursion, HoldsAt, list_any}
 use Rattle.std.specs.VecDeque.{deque_capacity}
-use Rattle.mc_base.specs.Limits.{record_limit, creation_limit, first_address}
+use Rattle.mc_base.specs.Limits.{record_limit, creation_limit, first_address, announcement_limit}
 use Rattle.mc_base.specs.declared.name.EndName.{EndName}
 use Rattle.mc_base.specs.declared.name.Local.{Local}
 use Rattle.mc_base.specs.NameMap.{Names, learned}
@@ -138,4 +138,4 @@ pub record IsKept (t : Inside) : Type 0 where
   pub few : length t.records.items ≤ record_limit
   pub given : t.given ≤ creation_limit
   pub record_room : record_limit ≤ vec_capacity t.records
-  pub event_room : record_limit + record_limit ≤ deque_capacity t.events
+  pub event_room : announcement_limit ≤ deque_capacity t.events

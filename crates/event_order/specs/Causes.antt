@@ -1,6 +1,7 @@
 -- What events need of others: a frame is put before it is taken, and a buffer is given back before it comes back.
 -- Source: docs/FORMATS.md, "Journal text".
 use Rattle.std.specs.Prelude.{◌≤◌, ◌<◌, ◌==◌, ℕ, List, if◌then◌else◌, sum_by, take}
+use Rattle.mc_base.specs.Limits.{domain_limit}
 use Rattle.event_order.specs.declared.event.Event.{Event}
 use Rattle.event_order.specs.declared.event.What.{What}
 use Rattle.event_order.specs.declared.event.What.TheVariants.{Put, Take, Give, Back}
@@ -39,7 +40,7 @@ abbrev pub IsBacked : Cause → Lane → List Event → Type 0
 IsBacked c l es = (k : ℕ) → sum_by (lost c l) (take k es) ≤ sum_by (gained c l) (take k es)
 
 abbrev pub AreBackedFrom : Cause → ℕ → List Event → Type 0
-AreBackedFrom c p es = (q : ℕ) → q < 8 → IsBacked c (record { sender = p; receiver = q }) es
+AreBackedFrom c p es = (q : ℕ) → q < domain_limit → IsBacked c (record { sender = p; receiver = q }) es
 
 abbrev pub AreBacked : Cause → List Event → Type 0
-AreBacked c es = (p : ℕ) → p < 8 → AreBackedFrom c p es
+AreBacked c es = (p : ℕ) → p < domain_limit → AreBackedFrom c p es

@@ -1,6 +1,7 @@
 -- What the fields of an end over a ring mean, and the invariant that they keep.
 -- Source: docs/ARCHITECTURE.md, "The ends of a lane".
 use Rattle.std.specs.Prelude.{◌≡◌, ℕ, ◌+◌, ◌≤◌, List, length, take}
+use Rattle.mc_base.specs.Limits.{ring_limit}
 use Rattle.mc_base.specs.Stored.{Stored}
 use Rattle.shared_words.specs.Entry.{times}
 use Rattle.shared_words.specs.Places.{begins, starts_with}
@@ -29,7 +30,7 @@ pub record KeepsSender (on : TableShown) (capacity : ℕ) (s : RingSender) : Typ
   pub held : (x : ℕ) → often x s.free + times x s.half.written ≡ begins s.role (sender_size s) x + times x s.half.taken
   pub count : length s.free + length s.half.written ≡ starts_with s.role (sender_size s) + length s.half.taken
   pub sender : IsSender s
-  pub small : sender_size s ≤ 256
+  pub small : sender_size s ≤ ring_limit
   pub room : sender_size s ≤ capacity
 
 -- what its half wrote before the lane was opened are exactly the buffers with which the half began

@@ -2,11 +2,12 @@
 -- Source: docs/PROFILE.md, "Lanes".
 use Rattle.std.specs.Prelude.{ℕ, ◌<◌, ◌≤◌, List}
 use Rattle.std.specs.List.{range_with_len}
+use Rattle.mc_base.specs.Limits.{pool_limit}
 pub use Rattle.mc_base.specs.Numbers.{often, inside}
 
--- a lane has 1 to 256 buffers
+-- a lane has as many buffers as a domain's own pool may have, and at least one
 abbrev pub IsLaneSize : ℕ → Type 0
-IsLaneSize size = (0 < size) × (size ≤ 256)
+IsLaneSize size = (0 < size) × (size ≤ pool_limit)
 
 -- their numbers, from 0 on
 abbrev pub all_numbers : ℕ → List ℕ

@@ -1,6 +1,7 @@
 -- Two linked domains, and the calls of each.
 -- Source: docs/PROFILE.md, "Boards" and "Calls".
 use Rattle.std.specs.Prelude.{◌≡◌, ◌≤◌, ℕ, Bool, List, [], ◌∷◌, Option, None}
+use Rattle.mc_base.specs.Limits.{last_domain, node_limit, pool_limit}
 use Rattle.mc_base.specs.declared.request.RequestId.{RequestId}
 use Rattle.mc_base.specs.declared.request.Slot.{Slot}
 use Rattle.buffer_book.specs.Book.{kept_at}
@@ -45,11 +46,11 @@ pub record WaitsAt (which : Which) (number limit : ℕ) (ids : List RequestId) (
 
 -- numbers with which a domain may be opened
 pub record IsMember (m : Member) : Type 0 where
-  pub number : m.number ≤ 7
+  pub number : m.number ≤ last_domain
   pub some_nodes : 1 ≤ m.nodes
-  pub nodes : m.nodes ≤ 16
+  pub nodes : m.nodes ≤ node_limit
   pub some_pool : 1 ≤ m.pool
-  pub pool : m.pool ≤ 256
+  pub pool : m.pool ≤ pool_limit
 
 -- a domain just opened, with one link, of a size, to a peer
 pub record IsOpened (m : Member) (peer size : ℕ) (d : PlainDomain) : Type 0 where

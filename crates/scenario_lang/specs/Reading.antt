@@ -4,7 +4,7 @@ use Rattle.std.specs.Prelude.{◌≡◌, ℕ, not, List, [], ◌∷◌, map, len
 use Rattle.std.specs.List.{list_all}
 use Rattle.std.specs.Borrow.{Bor}
 use Rattle.arrayvec.specs.ArrayVec.{ArrayVec}
-use Rattle.mc_base.specs.Limits.{try_limit}
+use Rattle.mc_base.specs.Limits.{try_limit, last_domain, last_node, node_limit, pool_limit}
 use Rattle.mc_base.specs.declared.name.EndName.{EndName}
 use Rattle.board_model.specs.declared.scenario.DomainLine.{DomainLine}
 use Rattle.board_model.specs.declared.scenario.Call.{Call}
@@ -96,9 +96,9 @@ domain_in words = do
   n ← next_word r0
   r1 ← after_word (codes "pool") n.1
   p ← last_word r1
-  domain ← number_in (numeral 0 7 d.0)
-  nodes ← number_in (numeral 1 16 n.0)
-  pool ← number_in (numeral 1 256 p)
+  domain ← number_in (numeral 0 last_domain d.0)
+  nodes ← number_in (numeral 1 node_limit n.0)
+  pool ← number_in (numeral 1 pool_limit p)
   Ok (record { domain = domain; nodes = nodes; pool = pool })
 
 unfoldable pub link_in : List (List ℕ) → Result (ℕ × ℕ × ℕ) LineReason
@@ -107,16 +107,16 @@ link_in words = do
   b ← next_word a.1
   r0 ← after_word (codes "size") b.1
   q ← last_word r0
-  driver ← number_in (numeral 0 7 a.0)
-  device ← number_in (numeral 0 7 b.0)
+  driver ← number_in (numeral 0 last_domain a.0)
+  device ← number_in (numeral 0 last_domain b.0)
   size ← number_in (numeral 0 18446744073709551615 q)
   Ok (driver, device, size)
 
 unfoldable pub name_at : List ℕ → Result EndName LineReason
 name_at word = do
   parts ← or_form (three_parts (parts_at 58 word))
-  domain ← number_in (numeral 0 7 parts.0)
-  node ← number_in (numeral 0 15 parts.1)
+  domain ← number_in (numeral 0 last_domain parts.0)
+  node ← number_in (numeral 0 last_node parts.1)
   port ← number_in (numeral 0 65535 parts.2)
   Ok (record { domain = domain; node = node; port = port })
 
@@ -225,8 +225,8 @@ told_in (Some word) = label_in word >>= λ l. Ok (Some l)
 
 unfoldable pub call_line_in : CallParts → Result CallLine LineReason
 call_line_in p = do
-  domain ← number_in (numeral 0 7 p.domain)
-  node ← number_in (numeral 0 15 p.node)
+  domain ← number_in (numeral 0 last_domain p.domain)
+  node ← number_in (numeral 0 last_node p.node)
   tries ← tries_in p.tries
   label ← told_in p.told
   c ← call_in p.callee p.arguments
