@@ -55,7 +55,7 @@ module _ (s : Scenario) (js : List DomainJournal) (board : IsLinkedBoard s) (run
   )
     where
       one : (e : Deed) → FitsDeed e → ReadsDeed (after_deeds (opened s j) before) e
-      one (calls node call a) fit = λ none. posts_read (left_in s j).endpoints_given (may_know s js board run) (numbers_of s j.line) (reach s js board run) (after_deeds (opened s j) before) (moment s js board run j on before (d ∷ after) is) (moment_far s js board run j on before (d ∷ after) is) node call fit (none_holds (holds (after_deeds (opened s j) before) node call) (words_of call) none)
+      one (calls node call a) fit = λ none. posts_read (left_in s j).endpoints_given (may_know s js board run) (numbers_of s j.line) (reach s js board run) (after_deeds (opened s j) before) (moment s js board run j on before (d ∷ after) is) (moment_far s js board run j on before (d ∷ after) is) node call fit.1 (none_holds (holds (after_deeds (opened s j) before) node call) (words_of call) none)
       one (looks_back p count) fit = tt
       one (puts_owed p frame) fit = tt
       one (looks_ahead p count) fit = tt

@@ -13,6 +13,7 @@ use Rattle.board_model.proofs.ChannelLaw.{every-channel-is-kept, closes-tell-dro
 use Rattle.board_model.proofs.KeptBoard.{no-message-lost}
 use Rattle.board_model.proofs.MessageAlls.{all-weaken}
 use Rattle.board_model.proofs.OrderRuns.{receives_best, tests_tell_taken, deletes_tell_dropped, available_tell_queued, cancelled_took_nothing}
+use Rattle.board_model.proofs.NamesHad.{lookups_tell_had}
 use Rattle.board_model.proofs.PlaceCounts.{every_lane}
 use Rattle.board_model.proofs.RepliedRuns.{tests_tell_said}
 
@@ -24,6 +25,7 @@ linked_headline s js board run =
       best_first = each (ReceivesBest s) (λ j is. receives_best s j board is);
       tests_tell_taken = each (TestsTellTaken s) (λ j is. tests_tell_taken s j board is);
       tests_tell_said = each (TestsTellSaid s) (λ j is. tests_tell_said s j board is);
+      lookups_tell_had = lookups_tell_had s js board run;
       available_tell_queued = each (AvailableTellQueued s) (λ j is. available_tell_queued s j board is);
       deletes_tell_dropped = each (DeletesTellDropped s) (λ j is. deletes_tell_dropped s j board is);
       cancelled_nothing = each (CancelledTookNothing s) (λ j is. cancelled_took_nothing s j board is);

@@ -42,9 +42,9 @@ letter_small a b l small = go l small (reading (made a b (spelling l))) (reads_m
 announcement_small : (d : ℕ) (a : Announcement) → IsSmallFrame (announcing d a)
 announcement_small d a = go (reading (announcing d a)) (tells_made d a)
   where
-    go : (r : Reading) → Tells a.address r → IsSmallReading r
+    go : (r : Reading) → Tells d a r → IsSmallReading r
     go r (tells_faulty w) = tt
-    go r (tells_name bytes m create same) = tt
+    go r (tells_name bytes m create same named created) = tt
 
 reply_small : (r : Reply) → IsSmallFrame (replying r)
 reply_small r = go r.reason

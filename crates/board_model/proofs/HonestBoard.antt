@@ -57,6 +57,14 @@ once_holds P q (n ∷ ns) all once = go (q == n) refl once (λ k. once_holds P q
     go true is k later = subst P (sym (eqb-true q n is)) all.0
     go false is k later = later (omega arith)
 
+-- what is asked of each frame that is taken follows from more
+of_more : (F H : ℕ → Reading → Type 0) → ((q : ℕ) (r : Reading) → F q r → H q r) → (d : Deed) → OfTaken F d → OfTaken H d
+of_more F H more (takes q name frame word) is = more q (reading frame) is
+of_more F H more (looks_back q n) is = tt
+of_more F H more (puts_owed q f) is = tt
+of_more F H more (looks_ahead q n) is = tt
+of_more F H more (calls node call a) is = tt
+
 module _ (s : Scenario) (js : List DomainJournal) (board : IsLinkedBoard s) (run : IsBoardRun s js) where
   -- how many endpoints the domain of a number makes
   abbrev made_in : Option DomainJournal → ℕ
@@ -86,24 +94,49 @@ module _ (s : Scenario) (js : List DomainJournal) (board : IsLinkedBoard s) (run
       go None is = tt
       go (Some j) is = journal_honest j (all-found (λ k. IsDomainRun s k.line k.entries) (λ k. k.line.domain == a) js j run.domain_runs is) b
 
-  -- ---- so what is taken is honest
-
-  lane_honest : (l : Lane) → LaneFits s js l → AllByRecursion (λ f. Honest (made_at l.sender) (reading f)) (taken_from l.sender (journal_of l.receiver js))
-  lane_honest l fits =
-      (all-parts (λ f. Honest (made_at l.sender) (reading f)) (taken_from l.sender (journal_of l.receiver js)) fits.taken_first.0
-      (subst (AllByRecursion (λ f. Honest (made_at l.sender) (reading f))) fits.taken_first.1 (put_honest l.sender l.receiver))).0
-
   each_told : AllByRecursion (λ j. Has (λ e. e ≡ j.line) s.domains) js
   each_told = all-unmap (λ (d : DomainLine). Has (λ e. e ≡ d) s.domains) (λ (j : DomainJournal). j.line) js (subst (AllByRecursion (λ d. Has (λ e. e ≡ d) s.domains)) (sym run.each_domain) (rising_told s))
 
-  from_neighbours : (j : DomainJournal) → IsFound js j → Has (λ e. e ≡ j.line) s.domains → AllByRecursion (λ q. AllByRecursion (λ f. Honest (made_at q) (reading f)) (taken_from q j.entries)) (numbers_of s j.line)
-  from_neighbours j found told =
-      all-map (λ q. AllByRecursion (λ f. Honest (made_at q) (reading f)) (taken_from q j.entries)) (λ (n : Neighbour). n.number) (neighbours s j.line)
-      (all-weaken _ (λ n. AllByRecursion (λ f. Honest (made_at n.number) (reading f)) (taken_from n.number j.entries)) (λ n joined.
-      let l : Lane = record { sender = n.number; receiver = j.line.domain; size = n.size } in
-      let fits : LaneFits s js l = all-found (LaneFits s js) (λ k. (k.sender == n.number) && (k.receiver == j.line.domain)) (lanes s) l run.lanes_fit (lane-found s board n.number j.line.domain n.size (joined_back s j.line.domain n.number n.size joined)) in
-      subst (λ o. AllByRecursion (λ f. Honest (made_at n.number) (reading f)) (taken_from n.number (journal_in o))) found (lane_honest l fits))
-      (neighbours s j.line) (neighbours_join s j.line told))
+  -- ---- what holds of all that is put holds of all that is taken
+  module _ (F : ℕ → Reading → Type 0) (put_so : (a b : ℕ) → AllByRecursion (λ f. F a (reading f)) (put_to b (journal_of a js))) where
+    lane_so : (l : Lane) → LaneFits s js l → AllByRecursion (λ f. F l.sender (reading f)) (taken_from l.sender (journal_of l.receiver js))
+    lane_so l fits =
+        (all-parts (λ f. F l.sender (reading f)) (taken_from l.sender (journal_of l.receiver js)) fits.taken_first.0
+        (subst (AllByRecursion (λ f. F l.sender (reading f))) fits.taken_first.1 (put_so l.sender l.receiver))).0
+
+    from_neighbours : (j : DomainJournal) → IsFound js j → Has (λ e. e ≡ j.line) s.domains → AllByRecursion (λ q. AllByRecursion (λ f. F q (reading f)) (taken_from q j.entries)) (numbers_of s j.line)
+    from_neighbours j found told =
+        all-map (λ q. AllByRecursion (λ f. F q (reading f)) (taken_from q j.entries)) (λ (n : Neighbour). n.number) (neighbours s j.line)
+        (all-weaken _ (λ n. AllByRecursion (λ f. F n.number (reading f)) (taken_from n.number j.entries)) (λ n joined.
+        let l : Lane = record { sender = n.number; receiver = j.line.domain; size = n.size } in
+        let fits : LaneFits s js l = all-found (LaneFits s js) (λ k. (k.sender == n.number) && (k.receiver == j.line.domain)) (lanes s) l run.lanes_fit (lane-found s board n.number j.line.domain n.size (joined_back s j.line.domain n.number n.size joined)) in
+        subst (λ o. AllByRecursion (λ f. F n.number (reading f)) (taken_from n.number (journal_in o))) found (lane_so l fits))
+        (neighbours s j.line) (neighbours_join s j.line told))
+
+    hears_all : (ns : List ℕ) (ds : List Deed) → AllByRecursion (IsFrom ns) ds → ((q : ℕ) → IsOnce ns q → AllByRecursion (λ f. F q (reading f)) (flat_map (takes_by q) ds)) → AllByRecursion (OfTaken F) ds
+    hears_all ns [] from all = tt
+    hears_all ns (d ∷ ds) from all = (one d from.0 (λ q once. (parts q once).0), hears_all ns ds from.1 (λ q once. (parts q once).1))
+      where
+        parts : (q : ℕ) → IsOnce ns q → AllByRecursion (λ f. F q (reading f)) (takes_by q d) × AllByRecursion (λ f. F q (reading f)) (flat_map (takes_by q) ds)
+        parts q once = all-parts (λ f. F q (reading f)) (takes_by q d) (flat_map (takes_by q) ds) (all q once)
+
+        one : (e : Deed) → IsFrom ns e → ((q : ℕ) → IsOnce ns q → AllByRecursion (λ f. F q (reading f)) (takes_by q e)) → OfTaken F e
+        one (looks_back q n) is each = tt
+        one (puts_owed q f) is each = tt
+        one (looks_ahead q n) is each = tt
+        one (calls node call a) is each = tt
+        one (takes q name frame word) is each = at_it (q == q) (eq-eqb q q refl) (each q is)
+          where
+            at_it : (b : Bool) → b ≡ true → AllByRecursion (λ f. F q (reading f)) (frames_if b (frame ∷ [])) → F q (reading frame)
+            at_it true is k = k.0
+            at_it false is k = absurd cc
+
+    pub taken_so : (j : DomainJournal) → IsFound js j → Has (λ e. e ≡ j.line) s.domains → TellsDeeds s j → OfJournal s board j → AllByRecursion (OfTaken F) (deeds_of s j)
+    taken_so j found line told deeds = hears_all (numbers_of s j.line) (deeds_of s j) deeds.from (λ q once.
+        subst (AllByRecursion (λ f. F q (reading f))) (told.takes q)
+        (once_holds (λ n. AllByRecursion (λ f. F n (reading f)) (taken_from n j.entries)) q (numbers_of s j.line) (from_neighbours j found line) once))
+
+  -- ---- so what is taken is honest
 
   heard : (q : ℕ) (r : Reading) → Honest (made_at q) r → Hears may_know q r
   heard q (is_faulty w) honest = tt
@@ -119,30 +152,13 @@ module _ (s : Scenario) (js : List DomainJournal) (board : IsLinkedBoard s) (run
   heard_far q (says src dst other) honest = tt
   heard_far q (brings src dst p) honest = tt
 
-  hears_all : (H : ℕ → Reading → Type 0) → ((q : ℕ) (r : Reading) → Honest (made_at q) r → H q r) → (ns : List ℕ) (ds : List Deed) → AllByRecursion (IsFrom ns) ds → ((q : ℕ) → IsOnce ns q → AllByRecursion (λ f. Honest (made_at q) (reading f)) (flat_map (takes_by q) ds)) → AllByRecursion (OfTaken H) ds
-  hears_all H hear ns [] from all = tt
-  hears_all H hear ns (d ∷ ds) from all = (one d from.0 (λ q once. (parts q once).0), hears_all H hear ns ds from.1 (λ q once. (parts q once).1))
-    where
-      parts : (q : ℕ) → IsOnce ns q → AllByRecursion (λ f. Honest (made_at q) (reading f)) (takes_by q d) × AllByRecursion (λ f. Honest (made_at q) (reading f)) (flat_map (takes_by q) ds)
-      parts q once = all-parts (λ f. Honest (made_at q) (reading f)) (takes_by q d) (flat_map (takes_by q) ds) (all q once)
-
-      one : (e : Deed) → IsFrom ns e → ((q : ℕ) → IsOnce ns q → AllByRecursion (λ f. Honest (made_at q) (reading f)) (takes_by q e)) → OfTaken H e
-      one (looks_back q n) is each = tt
-      one (puts_owed q f) is each = tt
-      one (looks_ahead q n) is each = tt
-      one (calls node call a) is each = tt
-      one (takes q name frame word) is each = at_it (q == q) (eq-eqb q q refl) (each q is)
-        where
-          at_it : (b : Bool) → b ≡ true → AllByRecursion (λ f. Honest (made_at q) (reading f)) (frames_if b (frame ∷ [])) → H q (reading frame)
-          at_it true is k = hear q (reading frame) k.0
-          at_it false is k = absurd cc
-
   -- ---- each journal
 
   pub record OnBoard (j : DomainJournal) : Type 0 where
     pub is_run : IsDomainRun s j.line j.entries
     pub told : TellsDeeds s j
     pub found : IsFound js j
+    pub line : Has (λ e. e ≡ j.line) s.domains
     pub deeds : OfJournal s board j
     pub hears : AllByRecursion (HearsDeed may_know) (deeds_of s j)
     pub hears_far : AllByRecursion (HearsFarDeed may_know) (deeds_of s j)
@@ -151,16 +167,15 @@ module _ (s : Scenario) (js : List DomainJournal) (board : IsLinkedBoard s) (run
   on_board j is at =
       let told = tells_deeds s j board is in
       let deeds = of_journal s board j is in
-      let taken : (q : ℕ) → IsOnce (numbers_of s j.line) q → AllByRecursion (λ f. Honest (made_at q) (reading f)) (flat_map (takes_by q) (deeds_of s j)) = λ q once.
-      subst (AllByRecursion (λ f. Honest (made_at q) (reading f))) (told.takes q)
-      (once_holds (λ n. AllByRecursion (λ f. Honest (made_at n) (reading f)) (taken_from n j.entries)) q (numbers_of s j.line) (from_neighbours j at.0 at.1) once) in
+      let honest = taken_so (λ q r. Honest (made_at q) r) put_honest j at.0 at.1 told deeds in
       record {
         is_run = is;
         told = told;
         found = at.0;
+        line = at.1;
         deeds = deeds;
-        hears = hears_all (Hears may_know) heard (numbers_of s j.line) (deeds_of s j) deeds.from taken;
-        hears_far = hears_all (HearsFar may_know) heard_far (numbers_of s j.line) (deeds_of s j) deeds.from taken;
+        hears = all-weaken (OfTaken (λ q r. Honest (made_at q) r)) (HearsDeed may_know) (of_more (λ q r. Honest (made_at q) r) (Hears may_know) heard) (deeds_of s j) honest;
+        hears_far = all-weaken (OfTaken (λ q r. Honest (made_at q) r)) (HearsFarDeed may_know) (of_more (λ q r. Honest (made_at q) r) (HearsFar may_know) heard_far) (deeds_of s j) honest;
       }
 
   pub each_on_board : AllByRecursion OnBoard js

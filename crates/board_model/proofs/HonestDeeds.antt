@@ -1,6 +1,6 @@
 -- Each deed keeps what holds of a domain, and what a deed puts is honest, whatever the domain takes.
 use Rattle.board_model.proofs.PartReadings.{coming-holds}
-use Rattle.board_model.proofs.PartLetters.{each-frame, each-put}
+use Rattle.board_model.proofs.PartLetters.{letter_frames, each-frame, each-put}
 use Rattle.board_model.specs.Parts.{Came, came_from, said_from, part_of}
 use Rattle.std.proofs.Common.{◌≡◌, ℕ, ◌+◌, ◌≤◌, ◌<◌, ◌⊎◌, inl, inr, Bool, false, not, cond, List, [], ◌∷◌, map, Option, Some, None, refl, sym, ◌∙◌, subst, arith}
 use Rattle.std.specs.Prelude.{find, ◌==◌, nat_lt, is_some, option_map, unwrap_or}
@@ -8,7 +8,8 @@ use Rattle.std.specs.List.{AllByRecursion, flat_map}
 use Rattle.std.proofs.lemmas.Bool.{cond_both, leb-false, eqb-true}
 use Rattle.mc_base.specs.Limits.{creation_limit, channel_limit}
 use Rattle.mc_base.specs.NameMap.{Names, rank, has_name, learned}
-use Rattle.mc_base.specs.Reading.{Reading, announces, reading, says}
+use Rattle.mc_base.specs.declared.fault.Fault.{Fault}
+use Rattle.mc_base.specs.Reading.{Reading, is_faulty, announces, reading, says}
 use Rattle.mc_base.specs.Letter.{PlainLetter, accept, reject, packet, scalar, send_close, Carrier, of_message, of_packet, carried}
 use Rattle.mc_base.specs.declared.channel.Side.{Side}
 use Rattle.mc_base.specs.declared.channel.Side.TheVariants.{Sender, Receiver}
@@ -66,6 +67,28 @@ not_some (Some y) is = absurd cc
 
 abbrev pub NoWord : DomainState → ℕ → DomainCall → Type 0
 NoWord s node call = AllByRecursion (λ w. holds s node call w ≡ false) (words_of call)
+
+-- ---- what is read of the frames that a call puts: a raw one has a fault, and the others are those of its letters
+module _ (s : DomainState) (Q : Reading → Type 0) (faulty : (w : Fault) → Q (is_faulty w)) (L : Post → Type 0) (letters : (x : Post) → L x → AllByRecursion (λ f. Q (reading f)) (letter_frames x.source x.destination x.letter)) (posts : (node : ℕ) (call : DomainCall) → NoWord s node call → AllByRecursion L (success_posts s node call)) where
+  all_read : (xs : List Post) → AllByRecursion L xs → AllByRecursion (λ (p : ℕ × List ℕ). Q (reading p.1)) (flat_map puts_of xs)
+  all_read [] all = tt
+  all_read (x ∷ xs) all = all-append (λ (p : ℕ × List ℕ). Q (reading p.1)) (puts_of x) (flat_map puts_of xs) (each-put (λ f. Q (reading f)) x (letters x all.0)) (all_read xs all.1)
+
+  success_read : (node : ℕ) (call : DomainCall) → NoWord s node call → AllByRecursion (λ (p : ℕ × List ℕ). Q (reading p.1)) (success_puts s node call)
+  success_read node (raw_to to bytes) no_word = let raw = raw_faulty bytes no_word.1.0 in (subst Q (sym raw.1) (faulty raw.0), tt)
+  success_read node other no_word = all_read (success_posts s node other) (posts node other no_word)
+
+  to_one : (q : ℕ) (xs : List (ℕ × List ℕ)) → AllByRecursion (λ (p : ℕ × List ℕ). Q (reading p.1)) xs → AllByRecursion (λ f. Q (reading f)) (frames_to q xs)
+  to_one q [] all = tt
+  to_one q (x ∷ xs) all = all-append (λ f. Q (reading f)) (frames_if (x.0 == q) (x.1 ∷ [])) (frames_to q xs)
+      (cond_both (x.0 == q) (x.1 ∷ []) [] (AllByRecursion (λ f. Q (reading f))) (λ k. (all.0, tt)) (λ k. tt)) (to_one q xs all.1)
+
+  pub call_puts : (q node : ℕ) (call : DomainCall) → AllByRecursion (λ f. Q (reading f)) (frames_to q (puts s node call))
+  call_puts q node call = to_one q (puts s node call) (by (refusal s node call) refl)
+    where
+      by : (o : Option Refusal) → refusal s node call ≡ o → AllByRecursion (λ (p : ℕ × List ℕ). Q (reading p.1)) (unless_refused o [] (success_puts s node call))
+      by None why = success_read node call (none-passes (holds s node call) (words_of call) why)
+      by (Some w) why = tt
 
 module _ (made : ℕ) (known : ℕ → ℕ → Type 0) (ns : List ℕ) where
   abbrev KnownOf : ℕ → Names → Type 0
@@ -242,23 +265,7 @@ module _ (made : ℕ) (known : ℕ → ℕ → Type 0) (ns : List ℕ) where
     deed_honest q (looks_ahead p n) few within may = tt
     deed_honest q (takes p name frame word) few within may = tt
     deed_honest q (puts_owed p frame) few within may = cond_both (p == q) (frame ∷ []) [] (AllByRecursion (λ f. Honest made (reading f))) (λ k. ((owed_well p frame few may).honest, tt)) (λ k. tt)
-    deed_honest q (calls node call a) few within may = to_one (puts s node call) (by (refusal s node call) refl)
-      where
-        all_honest : (ps : List Post) → AllByRecursion (λ p. HonestLetter made p.source p.letter) ps → AllByRecursion (λ (x : ℕ × List ℕ). Honest made (reading x.1)) (flat_map puts_of ps)
-        all_honest [] all = tt
-        all_honest (x ∷ xs) all = all-append (λ (y : ℕ × List ℕ). Honest made (reading y.1)) (puts_of x) (flat_map puts_of xs)
-            (each-put (λ f. Honest made (reading f)) x (each-frame (Honest made) x.source x.destination x.letter (letter_honest made x.source x.destination x.letter few all.0) (λ w. tt) (λ s d q. tt))) (all_honest xs all.1)
-
-        -- a raw frame announces and connects nothing
-        success_honest : (c : DomainCall) → NoWord s node c → AllByRecursion (λ (x : ℕ × List ℕ). Honest made (reading x.1)) (success_puts s node c)
-        success_honest (raw_to to bytes) no_word = (subst (Honest made) (sym (raw_faulty bytes no_word.1.0).1) tt, tt)
-        success_honest other no_word = all_honest (success_posts s node other) (posts_honest node other no_word within)
-
-        by : (o : Option Refusal) → refusal s node call ≡ o → AllByRecursion (λ (x : ℕ × List ℕ). Honest made (reading x.1)) (unless_refused o [] (success_puts s node call))
-        by None why = success_honest call (none-passes (holds s node call) (words_of call) why)
-        by (Some w) why = tt
-
-        to_one : (xs : List (ℕ × List ℕ)) → AllByRecursion (λ (x : ℕ × List ℕ). Honest made (reading x.1)) xs → AllByRecursion (λ f. Honest made (reading f)) (frames_to q xs)
-        to_one [] all = tt
-        to_one (x ∷ xs) all = all-append (λ f. Honest made (reading f)) (frames_if (x.0 == q) (x.1 ∷ [])) (frames_to q xs)
-            (cond_both (x.0 == q) (x.1 ∷ []) [] (AllByRecursion (λ f. Honest made (reading f))) (λ k. (all.0, tt)) (λ k. tt)) (to_one xs all.1)
+    deed_honest q (calls node call a) few within may =
+        call_puts s (Honest made) (λ w. tt) (λ x. HonestLetter made x.source x.letter)
+        (λ x is. each-frame (Honest made) x.source x.destination x.letter (letter_honest made x.source x.destination x.letter few is) (λ w. tt) (λ a b p. tt))
+        (λ n c no_word. posts_honest n c no_word within) q node call

@@ -4,25 +4,28 @@ use Rattle.std.proofs.Common.{◌≡◌, ℕ, ◌+◌, ◌-◌, ◌≤◌, ◌<�
 use Rattle.std.specs.Prelude.{◌==◌, nat_lt, nat_le, take_while, option_map}
 use Rattle.std.specs.List.{AllByRecursion}
 use Rattle.std.proofs.Math.Seq.{drop-append_seam}
-use Rattle.std.proofs.lemmas.List.{length-replicate}
+use Rattle.std.proofs.lemmas.List.{drop-drop, length-replicate}
 use Rattle.std.proofs.lemmas.List.Sums.{take_while-cons}
 use Rattle.std.proofs.lemmas.Bool.{le-ltb, lt-ltb, leb-true, leb-false, eqb-true, cases_Bool}
-use Rattle.byteorder.specs.Endian.{little_bytes}
+use Rattle.byteorder.specs.Endian.{little_bytes, little_number}
 use Rattle.byteorder.specs.Numbers.{little_number-reads_back}
 use Rattle.mc_base.specs.Bytes.{number_at}
 use Rattle.mc_base.specs.Limits.{buffer_size, frame_header_size, name_service_address, announcement_size, creation_limit}
 use Rattle.mc_base.specs.FaultRow.{FaultRow, first, first_fault, widened}
 use Rattle.mc_base.specs.Frame.{made, source_of, destination_of, payload_of}
-use Rattle.mc_base.specs.FullName.{end_name, full_name}
+use Rattle.mc_base.specs.FullName.{end_name, full_name, is_in_range, endpoint_named}
 use Rattle.mc_base.specs.Letter.{PlainLetter, msg, connect, accept, reject, recv_open, send_open, packet, scalar, send_close, recv_close, spelling, Fields, fields, fields_of, spelled, IsChannel, Piece, piece_spelling, Carrier, of_message, of_packet, carrier_fields}
 use Rattle.mc_base.specs.LetterFaults.{letter_faults, fields_in}
 use Rattle.mc_base.specs.Announcement.{announcement, announcement_faults, flags_of, is_name, name_in}
 use Rattle.mc_base.specs.Fault.{faults, fault}
+use Rattle.mc_base.specs.declared.name.EndName.{EndName}
 use Rattle.mc_base.specs.declared.channel.Reason.{Reason}
 use Rattle.mc_base.specs.declared.fault.Fault.{Fault}
 use Rattle.mc_base.specs.declared.fault.Fault.TheVariants as of
 use Rattle.mc_base.specs.declared.fault.FrameFault.TheVariants.{FrameLong}
 use Rattle.mc_base.specs.Reading.{Reading, is_faulty, announces, says, reading, reading_by, announced_in, letter_of, brings, piece_of, said_in}
+use Rattle.mc_base.proofs.FullNames.{read_back}
+use Rattle.mc_base.proofs.NameFields.{full-name-read}
 use Rattle.board_model.specs.State.{Announcement, Reply, announcing, letter_by, replying}
 use Rattle.board_model.specs.Honesty.{IsMade}
 use Rattle.board_model.specs.Messages.{said_by}
@@ -161,9 +164,9 @@ part_made src dst p = go p.carrier
 
 -- ---- announcements
 
-pub data Tells (a : ℕ) : Reading → Type 0 where
-  tells_faulty : (w : Fault) → Tells a (is_faulty w)
-  tells_name : (name : List ℕ) (m : ℕ) (create : Bool) → (a < 2 ^ 32 → m ≡ a) → Tells a (announces name m create)
+pub data Tells (d : ℕ) (a : Announcement) : Reading → Type 0 where
+  tells_faulty : (w : Fault) → Tells d a (is_faulty w)
+  tells_name : (name : List ℕ) (m : ℕ) (create : Bool) → (a.address < 2 ^ 32 → m ≡ a.address) → (is_in_range (end_name d a.local) ≡ true → name ≡ full_name (end_name d a.local)) → create ≡ a.create → Tells d a (announces name m create)
 
 -- what stands behind a name's field
 behind_field : (name rest : List ℕ) → length name ≤ 32 → drop 32 (name ++ (replicate (32 - length name) 0 ++ rest)) ≡ rest
@@ -191,26 +194,45 @@ module _ (d : ℕ) (a : Announcement) where
   abbrev frame : List ℕ
   frame = announcing d a
 
-  whole_name : payload_of frame ≡ payload → fault frame ≡ None → (destination_of frame == name_service_address) ≡ true → Tells a.address (announced_in (payload_of frame))
+  flags_fit : (create : Bool) → flags_of create < 256 ^ 4
+  flags_fit true = omega arith
+  flags_fit false = omega arith
+
+  flags_say : (create : Bool) → (flags_of create == flags_of true) ≡ create
+  flags_say true = refl
+  flags_say false = refl
+
+  -- the flags say what the announcement says
+  flagged : length name ≤ 32 → (number_at 36 4 payload == flags_of true) ≡ a.create
+  flagged short =
+      let numbers : List ℕ = little_bytes 4 a.address ++ little_bytes 4 (flags_of a.create) in
+      let flags : number_at 36 4 payload ≡ flags_of a.create
+      = ap (little_number 4) (sym (drop-drop 4 32 payload) ∙ ap (drop 4) (behind_field name numbers short)) ∙ little_number-reads_back 4 (flags_of a.create) [] (flags_fit a.create) in
+      ap (λ n. n == flags_of true) flags ∙ flags_say a.create
+
+  whole_name : payload_of frame ≡ payload → fault frame ≡ None → (destination_of frame == name_service_address) ≡ true → Tells d a (announced_in (payload_of frame))
   whole_name back none here =
       let size : length payload ≡ 40 = sym (ap (λ (p : List ℕ). length p) back) ∙ eqb-true (length (payload_of frame)) announcement_size (not_false _ (sound_name frame none here).whole) in
       let short : length name ≤ 32 = omega (arith, size, announcement_length name a.address a.create) in
-      subst (λ p. Tells a.address (announced_in p)) (sym back)
-      (tells_name (name_in payload) (number_at 32 4 payload) _ (λ fits. ap (λ p. number_at 0 4 p) (behind_field name (little_bytes 4 a.address ++ little_bytes 4 (flags_of a.create)) short) ∙ little_number-reads_back 4 a.address (little_bytes 4 (flags_of a.create)) fits))
+      subst (λ p. Tells d a (announced_in p)) (sym back)
+      (tells_name (name_in payload) (number_at 32 4 payload) _
+      (λ fits. ap (λ p. number_at 0 4 p) (behind_field name (little_bytes 4 a.address ++ little_bytes 4 (flags_of a.create)) short) ∙ little_number-reads_back 4 a.address (little_bytes 4 (flags_of a.create)) fits)
+      (λ ranged. full-name-read (end_name d a.local) (little_bytes 4 a.address ++ little_bytes 4 (flags_of a.create)) ranged)
+      (flagged short))
 
   to_names : (destination_of frame == name_service_address) ≡ true
   to_names = ap (λ k. k == name_service_address) (destination_back a.address name_service_address payload (omega arith))
 
-  by_fault_of : payload_of frame ≡ payload → (x : Option Fault) → fault frame ≡ x → Tells a.address (reading_by x frame)
+  by_fault_of : payload_of frame ≡ payload → (x : Option Fault) → fault frame ≡ x → Tells d a (reading_by x frame)
   by_fault_of back (Some w) is = tells_faulty w
   by_fault_of back None is =
-      subst (λ b. Tells a.address (cond b (announced_in (payload_of frame)) (said_in (source_of frame) (destination_of frame) (fields_in (payload_of frame))))) (sym to_names) (whole_name back is to_names)
+      subst (λ b. Tells d a (cond b (announced_in (payload_of frame)) (said_in (source_of frame) (destination_of frame) (fields_in (payload_of frame))))) (sym to_names) (whole_name back is to_names)
 
-  pub tells_made : Tells a.address (reading (announcing d a))
+  pub tells_made : Tells d a (reading (announcing d a))
   unfolding reading
   tells_made = elim (cases_Bool (nat_le (length payload) 496)) [
     | inl short ↦ by_fault_of (payload_back a.address name_service_address payload (leb-true (length payload) 496 short)) (fault frame) refl
-    | inr long ↦ subst (λ x. Tells a.address (reading_by x frame)) (sym (too_long a.address name_service_address payload (leb-false (length payload) 496 long))) (tells_faulty _)
+    | inr long ↦ subst (λ x. Tells d a (reading_by x frame)) (sym (too_long a.address name_service_address payload (leb-false (length payload) 496 long))) (tells_faulty _)
   ]
 
 -- ---- what is put is honest: an announcement has an address of an endpoint of the domain, and a Connect comes from one, with the
@@ -256,17 +278,45 @@ letter_honest endpoints a b l few is = go (reading (made a b (spelling l))) (rea
 pub announcing_honest : (endpoints d : ℕ) (a : Announcement) → endpoints ≤ creation_limit → IsMade endpoints a.address → Honest endpoints (reading (announcing d a))
 announcing_honest endpoints d a few is = go (reading (announcing d a)) (tells_made d a)
   where
-    go : (r : Reading) → Tells a.address r → Honest endpoints r
+    go : (r : Reading) → Tells d a r → Honest endpoints r
     go r (tells_faulty w) = tt
-    go r (tells_name bytes m create same) = subst (IsMade endpoints) (sym (same (small_made endpoints a.address few is))) is
+    go r (tells_name bytes m create same named says_so) = subst (IsMade endpoints) (sym (same (small_made endpoints a.address few is))) is
 
 -- it is no message
 pub announcing_silent : (sender receiver d : ℕ) (a : Announcement) → said_by sender receiver (reading (announcing d a)) ≡ []
 announcing_silent sender receiver d a = go (reading (announcing d a)) (tells_made d a)
   where
-    go : (r : Reading) → Tells a.address r → said_by sender receiver r ≡ []
+    go : (r : Reading) → Tells d a r → said_by sender receiver r ≡ []
     go r (tells_faulty w) = refl
-    go r (tells_name bytes m create same) = refl
+    go r (tells_name bytes m create same named says_so) = refl
+
+-- ---- what is announced of a name is so: it is an endpoint's, which has or had the address
+
+abbrev pub Truthful : (EndName → ℕ → Type 0) → Reading → Type 0
+Truthful had (announces text x true) = (n : EndName) → endpoint_named text ≡ Some n → had n x
+Truthful had other = Unit {0}
+
+pub announcing_truthful : (had : EndName → ℕ → Type 0) → ((n : EndName) (x : ℕ) → had n x → (is_in_range n ≡ true) × (x < 2 ^ 32)) → (d : ℕ) (a : Announcement) → (a.create ≡ true → had (end_name d a.local) a.address) → Truthful had (reading (announcing d a))
+announcing_truthful had fits d a so = go (reading (announcing d a)) (tells_made d a)
+  where
+    go : (r : Reading) → Tells d a r → Truthful had r
+    go r (tells_faulty w) = tt
+    go r (tells_name text m true same named created) = λ n is.
+        let its : had (end_name d a.local) a.address = so (sym created) in
+        let in_range = fits (end_name d a.local) a.address its in
+        let text_is : text ≡ full_name (end_name d a.local) = named in_range.0 in
+        let read : Some (end_name d a.local) ≡ Some n = sym (read_back (end_name d a.local) in_range.0) ∙ (ap endpoint_named (sym text_is) ∙ is) in
+        let name_is : end_name d a.local ≡ n = cc in
+        subst (λ k. had k m) name_is (subst (had (end_name d a.local)) (sym (same in_range.1)) its)
+    go r (tells_name text m false same named created) = tt
+
+-- a letter announces nothing, and so does a reply
+pub letter_truthful : (had : EndName → ℕ → Type 0) (a b : ℕ) (l : PlainLetter) → Truthful had (reading (made a b (spelling l)))
+letter_truthful had a b l = go (reading (made a b (spelling l))) (reads_made a b (fields_of l) (first_version l))
+  where
+    go : (r : Reading) → MadeReads a (fields_of l) r → Truthful had r
+    go r (made_faulty w) = tt
+    go r (made_letter s d m from number) = tt
 
 -- a letter of another kind is none either
 abbrev pub IsSilent : PlainLetter → Type 0
@@ -310,6 +360,12 @@ reply_honest endpoints (brings src dst q) is = absurd is
 reply_honest endpoints (says src dst (accept m)) is = tt
 reply_honest endpoints (says src dst (reject m why)) is = tt
 reply_honest endpoints (says src dst other) is = absurd is
+
+pub reply_truthful : (had : EndName → ℕ → Type 0) (r : Reading) → IsReply r → Truthful had r
+reply_truthful had (is_faulty w) is = tt
+reply_truthful had (announces text a create) is = absurd is
+reply_truthful had (brings src dst q) is = absurd is
+reply_truthful had (says src dst l) is = tt
 
 pub reply_silent : (sender receiver : ℕ) (r : Reading) → IsReply r → said_by sender receiver r ≡ []
 reply_silent sender receiver (is_faulty w) is = refl

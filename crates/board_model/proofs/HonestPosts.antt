@@ -4,13 +4,13 @@ use Rattle.std.proofs.Common.{◌≡◌, ℕ, ◌+◌, ◌*◌, ◌≤◌, ◌<�
 use Rattle.std.specs.Prelude.{is_some, option_map, unwrap_or, nat_lt, ◌||◌}
 use Rattle.std.specs.List.{AllByRecursion}
 use Rattle.std.proofs.lemmas.Bool.{leb-false, ltb-false}
-use Rattle.mc_base.specs.Limits.{item_size, channel_limit}
+use Rattle.mc_base.specs.Limits.{item_size, channel_limit, last_priority}
 use Rattle.mc_base.specs.Letter.{PlainLetter, bytes_of_bits, msg, connect, packet, scalar, IsChannel}
 use Rattle.mc_base.specs.declared.name.Local.{Local}
 use Rattle.mc_base.specs.declared.name.EndName.{EndName}
 use Rattle.mc_base.specs.declared.channel.Side.{Side}
 use Rattle.mc_base.specs.declared.channel.Side.TheVariants.{Sender, Receiver}
-use Rattle.board_model.specs.DomainCall.{DomainCall, send_from, connect_from, open_at, packet_from, scalar_from, close_at}
+use Rattle.board_model.specs.DomainCall.{DomainCall, create_at, send_from, connect_from, open_at, packet_from, scalar_from, close_at}
 use Rattle.board_model.specs.State.{ChannelEnd, Endpoint, DomainState, is_at, place_at, address_at, live_at, channel_in}
 use Rattle.board_model.specs.Answer.{local, address_of, over_channel, over_end, opening_letter, closing_letter, Post, post, success_posts}
 use Rattle.board_model.proofs.MessageAlls.{all-found}
@@ -26,9 +26,10 @@ pub record CanReach (a : ℕ) : Type 0 where
   pub above : 1024 ≤ a
   pub below : a < 2 ^ 32
 
--- a call as a lawful scenario has it: a scalar's value fits its bits
+-- a call as a lawful scenario has it: the port of an endpoint that is made, and a scalar's value fit their bits
 abbrev pub FitsCall : DomainCall → Type 0
-FitsCall (send_from port to priority bytes) = priority ≤ 3
+FitsCall (create_at port) = port < 2 ^ 16
+FitsCall (send_from port to priority bytes) = priority ≤ last_priority
 FitsCall (scalar_from port bits value) = value < 2 ^ (8 * bytes_of_bits bits)
 FitsCall other = Unit {0}
 

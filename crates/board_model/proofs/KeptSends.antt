@@ -9,7 +9,7 @@ use Rattle.std.proofs.Common.{◌≡◌, ℕ, ◌+◌, ◌≤◌, Bool, true, fa
 use Rattle.std.specs.Prelude.{count_by, is_none, is_some, option_map, unwrap_or, ◌==◌}
 use Rattle.std.specs.List.{AllByRecursion, flat_map}
 use Rattle.std.proofs.lemmas.List.{append-nil}
-use Rattle.mc_base.specs.Limits.{creation_limit}
+use Rattle.mc_base.specs.Limits.{creation_limit, last_node}
 use Rattle.mc_base.specs.Fault.{fault}
 use Rattle.mc_base.specs.Letter.{PlainLetter, msg, packet, scalar}
 use Rattle.mc_base.specs.declared.channel.Side.{Side}
@@ -42,7 +42,7 @@ use Rattle.board_model.proofs.RawFrames.{raw_faulty}
 
 -- a call as a lawful scenario has it
 abbrev pub FitsDeed : Deed → Type 0
-FitsDeed (calls node call a) = FitsCall call
+FitsDeed (calls node call a) = (node ≤ last_node) × FitsCall call
 FitsDeed other = Unit {0}
 
 not_false : (b : Bool) → not b ≡ false → b ≡ true
@@ -144,7 +144,7 @@ module _ (test : Message → Bool) (made_in : ℕ) (known : ℕ → ℕ → Type
 
     success_sends : (d node : ℕ) (call : DomainCall) → FitsDeed (calls node call (success s node call)) → refusal s node call ≡ None → AllByRecursion Reads (success_posts s node call) →
         total (λ n. passing test d n (frames_to n (success_puts s node call))) ns ≡ count_by test (accepted_by d s (calls node call (success s node call)))
-    success_sends d node (send_from port to priority bytes) low free read = send_said d node port to priority bytes low free read
+    success_sends d node (send_from port to priority bytes) low free read = send_said d node port to priority bytes low.1 free read
     success_sends d node (create_at port) fits free read = none_put
     success_sends d node (delete_at port) fits free read = none_put
     success_sends d node (lookup_of name) fits free read = none_put

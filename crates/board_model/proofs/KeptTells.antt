@@ -1,8 +1,9 @@
 -- What the runs of domains tell of deeds, as the laws of boards take it; and which deeds a journal tells of: calls as the scenario has
 -- them, few that succeed, and frames taken from neighbours alone.
-use Rattle.std.proofs.Common.{◌≡◌, ℕ, ◌+◌, ◌<◌, ◌^◌, List, [], ◌∷◌, ◌++◌, map, length, Option, Some, None, refl, sym, ap, ◌∙◌, subst, arith, append_assoc}
+use Rattle.std.proofs.Common.{◌≡◌, ℕ, ◌+◌, ◌≤◌, ◌<◌, ◌^◌, List, [], ◌∷◌, ◌++◌, map, length, Option, Some, None, refl, sym, ap, ◌∙◌, subst, arith, append_assoc}
 use Rattle.std.specs.Prelude.{◌==◌}
 use Rattle.std.specs.List.{AllByRecursion, flat_map}
+use Rattle.mc_base.specs.Limits.{last_node}
 use Rattle.board_model.specs.declared.scenario.Call.{Call}
 use Rattle.board_model.specs.declared.scenario.Call.TheVariants.{Create, Delete, Lookup, MsgSend, MsgRecv, MsgRecvI, MsgAvailable, Connect, OpenSend, OpenRecv, PktSend, PktRecv, PktRecvI, Release, SclSend, SclRecv, CloseSend, CloseRecv, Test, Wait, WaitAny, Cancel, Raw, Turn}
 use Rattle.board_model.specs.declared.scenario.CallLine.{CallLine}
@@ -25,12 +26,13 @@ use Rattle.board_model.proofs.DeedRuns.{IsDeedRun, puts_by, takes_by}
 use Rattle.board_model.proofs.RunFronts.{allowed-front}
 use Rattle.board_model.proofs.RunDeeds.{AllAllowed, allowed-all, deeds_run, state_is, puts_are, takes_are}
 use Rattle.board_model.proofs.ListsApart.{all-unmap}
-use Rattle.board_model.proofs.MessageAlls.{all-at, all-append, all-filter}
+use Rattle.board_model.proofs.MessageAlls.{all-at, all-append, all-filter, all-with}
 use Rattle.board_model.proofs.OrderRuns.{few}
 use Rattle.board_model.proofs.PlaceBoards.{neighbours_differ}
 use Rattle.board_model.proofs.HonestSound.{Sound}
 use Rattle.board_model.proofs.HonestRuns.{anything, hears_anything, sound_opening, sound_deeds}
 use Rattle.board_model.proofs.KeptLanes.{IsOnce, IsFrom, each_once}
+use Rattle.board_model.proofs.HonestPosts.{FitsCall}
 use Rattle.board_model.proofs.KeptSends.{FitsDeed}
 use Rattle.board_model.proofs.OrderSerials.{all_succeed}
 
@@ -79,44 +81,48 @@ any_visit (v ∷ vs) = (tt, any_visit vs)
 
 -- ---- calls are as the scenario has them
 
-fits_call : (labels : Labels) (s : DomainState) (node : ℕ) (call : Call) (a : PlainAnswer) → HasFitArguments call → FitsDeed (calls node (call_of labels s call) a)
-fits_call labels s node (MsgSend port to priority bytes) a fits = fits.2
-fits_call labels s node (Create port) a fits = tt
-fits_call labels s node (Delete port) a fits = tt
-fits_call labels s node (Lookup name) a fits = tt
-fits_call labels s node (MsgRecv port max) a fits = tt
-fits_call labels s node (MsgRecvI port max) a fits = tt
-fits_call labels s node (MsgAvailable port) a fits = tt
-fits_call labels s node (Connect port to kind) a fits = tt
-fits_call labels s node (OpenSend port kind) a fits = tt
-fits_call labels s node (OpenRecv port kind) a fits = tt
-fits_call labels s node (PktSend port bytes) a fits = tt
-fits_call labels s node (PktRecv port) a fits = tt
-fits_call labels s node (PktRecvI port) a fits = tt
-fits_call labels s node (Release label) a fits = tt
-fits_call labels s node (SclSend port bits value) a fits = fits.1
-fits_call labels s node (SclRecv port bits) a fits = tt
-fits_call labels s node (CloseSend port) a fits = tt
-fits_call labels s node (CloseRecv port) a fits = tt
-fits_call labels s node (Test label) a fits = tt
-fits_call labels s node (Wait label limit) a fits = tt
-fits_call labels s node (WaitAny names limit) a fits = tt
-fits_call labels s node (Cancel label) a fits = tt
-fits_call labels s node (Raw domain bytes) a fits = tt
-fits_call labels s node Turn a fits = tt
+-- a line as a lawful scenario has it
+abbrev FitsLine : CallLine → Type 0
+FitsLine c = (c.node ≤ last_node) × HasFitArguments c.call
 
-fits_line : (lines : List CallLine) (r : RunState) (a : PlainAnswer) (o : Option CallLine) → AllByRecursion (λ c. HasFitArguments c.call) lines → next_line lines r ≡ o → AllByRecursion FitsDeed (call_deeds o r a)
+fits_call : (labels : Labels) (s : DomainState) (call : Call) → HasFitArguments call → FitsCall (call_of labels s call)
+fits_call labels s (MsgSend port to priority bytes) fits = fits.2
+fits_call labels s (Create port) fits = fits
+fits_call labels s (Delete port) fits = tt
+fits_call labels s (Lookup name) fits = tt
+fits_call labels s (MsgRecv port max) fits = tt
+fits_call labels s (MsgRecvI port max) fits = tt
+fits_call labels s (MsgAvailable port) fits = tt
+fits_call labels s (Connect port to kind) fits = tt
+fits_call labels s (OpenSend port kind) fits = tt
+fits_call labels s (OpenRecv port kind) fits = tt
+fits_call labels s (PktSend port bytes) fits = tt
+fits_call labels s (PktRecv port) fits = tt
+fits_call labels s (PktRecvI port) fits = tt
+fits_call labels s (Release label) fits = tt
+fits_call labels s (SclSend port bits value) fits = fits.1
+fits_call labels s (SclRecv port bits) fits = tt
+fits_call labels s (CloseSend port) fits = tt
+fits_call labels s (CloseRecv port) fits = tt
+fits_call labels s (Test label) fits = tt
+fits_call labels s (Wait label limit) fits = tt
+fits_call labels s (WaitAny names limit) fits = tt
+fits_call labels s (Cancel label) fits = tt
+fits_call labels s (Raw domain bytes) fits = tt
+fits_call labels s Turn fits = tt
+
+fits_line : (lines : List CallLine) (r : RunState) (a : PlainAnswer) (o : Option CallLine) → AllByRecursion FitsLine lines → next_line lines r ≡ o → AllByRecursion FitsDeed (call_deeds o r a)
 fits_line lines r a None fit is = tt
-fits_line lines r a (Some line) fit is = (fits_call r.labels r.state line.node line.call a (all-at (λ c. HasFitArguments c.call) lines r.lines_called line fit is), tt)
+fits_line lines r a (Some line) fit is = let fits = all-at FitsLine lines r.lines_called line fit is in ((fits.0, fits_call r.labels r.state line.call fits.1), tt)
 
-fits_entry : (lines : List CallLine) (before : List PlainEntry) (r : RunState) (e : PlainEntry) → AllByRecursion (λ c. HasFitArguments c.call) lines → AllByRecursion FitsDeed (entry_deeds lines before r e)
+fits_entry : (lines : List CallLine) (before : List PlainEntry) (r : RunState) (e : PlainEntry) → AllByRecursion FitsLine lines → AllByRecursion FitsDeed (entry_deeds lines before r e)
 fits_entry lines before r (turned vs) fit = each_turn FitsDeed (λ q. Unit {0}) (λ q n. tt) (λ q f. tt) (λ q n. tt) (λ q name t is. tt) before vs (any_visit vs)
 fits_entry lines before r (put peer frame) fit = tt
 fits_entry lines before r (again word) fit = fits_line lines r (refuses word) (next_line lines r) fit refl
 fits_entry lines before r (waits k) fit = tt
 fits_entry lines before r (called k a) fit = fits_line lines r a (next_line lines r) fit refl
 
-pub fits_along : (lines : List CallLine) (before : List PlainEntry) (r : RunState) (es : List PlainEntry) → AllByRecursion (λ c. HasFitArguments c.call) lines → AllByRecursion FitsDeed (deeds_along lines before r es)
+pub fits_along : (lines : List CallLine) (before : List PlainEntry) (r : RunState) (es : List PlainEntry) → AllByRecursion FitsLine lines → AllByRecursion FitsDeed (deeds_along lines before r es)
 fits_along lines before r [] fit = tt
 fits_along lines before r (e ∷ es) fit = all-append FitsDeed (entry_deeds lines before r e) (deeds_along lines (before ++ e ∷ []) (after lines r e) es) (fits_entry lines before r e fit) (fits_along lines (before ++ e ∷ []) (after lines r e) es fit)
 
@@ -181,7 +187,8 @@ module _ (s : Scenario) (board : IsLinkedBoard s) where
   pub of_journal : (j : DomainJournal) → IsDomainRun s j.line j.entries → OfJournal j
   of_journal j run =
       let allowed : AllAllowed (script s j.line.domain) (start s j.line) j.entries = allowed-all (script s j.line.domain) (start s j.line) (left_by s j.line j.entries) j.entries run.steps in
-      let lines_fit = all-filter (λ c. HasFitArguments c.call) (λ c. c.domain == j.line.domain) s.calls board.arguments_fit in
+      let each_fits : AllByRecursion FitsLine s.calls = all-with (λ (c : CallLine). c.node ≤ last_node) (λ (c : CallLine). HasFitArguments c.call) FitsLine (λ c node arguments. (node, arguments)) s.calls board.nodes_fit board.arguments_fit in
+      let lines_fit = all-filter FitsLine (λ c. c.domain == j.line.domain) s.calls each_fits in
       record {
         fit = fits_along (script s j.line.domain) [] (start s j.line) j.entries lines_fit;
         from = from_along j.line [] j.entries allowed;

@@ -59,6 +59,7 @@ pub mod MessageNames
 pub mod MessageNeighbours
 pub mod MessageOnce
 pub mod MessageVisitLines
+pub mod NamesHad
 pub mod OrderMoments
 pub mod OrderLookups
 pub mod OrderEffects

@@ -1,5 +1,5 @@
--- Each change keeps this of a domain: the addresses that it has and knows of names were said of them, and what its requests to look up and to
--- connect are complete with was said.
+-- Each change keeps this of a domain: the addresses of its endpoints, and those that it announces, were made for their names; the addresses
+-- that it knows of names were said of them; and what its requests to look up and to connect are complete with was said.
 use Rattle.std.proofs.Common.{◌≡◌, ℕ, ◌+◌, ◌-◌, Bool, true, not, cond, List, [], ◌∷◌, ◌++◌, map, drop, length, Option, Some, None, sym, ap, ◌∙◌, subst}
 use Rattle.std.specs.Prelude.{◌==◌, ◌&&◌, is_none}
 use Rattle.std.specs.List.{AllByRecursion}
@@ -14,7 +14,7 @@ use Rattle.board_model.specs.Choice.{without_best}
 use Rattle.board_model.specs.State.{Item, Endpoint, Asked, name_of, channel_of, message_at, packet_at, Outcome, has_address, is_accepted, is_rejected, has_item, has_ended, Announcement, Request, Peer, DomainState, has_address_of, endpoint_of, waits_at, is_numbered}
 use Rattle.board_model.specs.Change.{Change, endpoint_made, endpoint_gone, item_queued, best_gone, oldest_gone, channel_set, queue_dropped, request_added, item_handed, waiting_ended, name_found, connect_settled, request_gone, end_announced, reply_owed, owed_put, buffers_back, frames_shown, frame_taken, names_known, buffers_used, endpoint_with, with_queue, with_channel, without_queue, done_with, same_name, asks_for, connects_on, all_done, handed_in, ended_in, at_peer, also_owed, first_put, endpoints_after, requests_after, peers_after, changed, changed_all}
 use Rattle.board_model.proofs.ListsApart.{all-map}
-use Rattle.board_model.proofs.MessageAlls.{all-append, all-changed-first, all-filter, all-weaken, all-without}
+use Rattle.board_model.proofs.MessageAlls.{all-append, all-changed-first, all-drop, all-filter, all-weaken, all-without}
 
 -- what a request is complete with was said: of a name, by its place in the order of names, or of a channel
 abbrev pub Settled : (ℕ → ℕ → Type 0) → (ℕ → PlainResult → Type 0) → Asked → Option Outcome → Type 0
@@ -37,27 +37,36 @@ same_rank n m same =
     let rest = and_parts (m.node == n.node) (m.port == n.port) parts.1 in
     ap rank (same_parts m n (eqb-true m.domain n.domain parts.0) (eqb-true m.node n.node rest.0) (eqb-true m.port n.port rest.1))
 
-module _ (named : ℕ → ℕ → Type 0) (replied : ℕ → PlainResult → Type 0) where
+module _ (made : EndName → ℕ → Type 0) (named : ℕ → ℕ → Type 0) (replied : ℕ → PlainResult → Type 0) where
   abbrev pub AllNamed : Names → Type 0
   AllNamed ks = AllByRecursion (λ k. named (rank k.0) k.1) ks
 
   abbrev pub IsNamed : ℕ → Endpoint → Type 0
-  IsNamed number e = named (rank (end_name number e.local)) e.address
+  IsNamed number e = made (end_name number e.local) e.address
 
   abbrev pub KnowsSaid : Peer → Type 0
   KnowsSaid p = AllNamed p.known
+
+  -- an announcement that is owed: of an endpoint that is there, it has its address
+  abbrev pub IsMade : ℕ → Announcement → Type 0
+  IsMade number a = a.create ≡ true → made (end_name number a.local) a.address
+
+  abbrev pub OwesMade : ℕ → Peer → Type 0
+  OwesMade number p = AllByRecursion (IsMade number) p.announcements
 
   abbrev pub IsSettled : Request → Type 0
   IsSettled r = Settled named replied r.asked r.outcome
 
   pub record Said (s : DomainState) : Type 0 where
     pub ends : AllByRecursion (IsNamed s.number) s.endpoints
+    pub owed : AllByRecursion (OwesMade s.number) s.peers
     pub names : AllByRecursion KnowsSaid s.peers
     pub settled : AllByRecursion IsSettled s.requests
 
   -- what is asked of a change
   abbrev pub Fits : DomainState → Change → Type 0
-  Fits s (endpoint_made at) = named (rank (end_name s.number at)) (first_address + s.endpoints_given)
+  Fits s (endpoint_made at) = made (end_name s.number at) (first_address + s.endpoints_given)
+  Fits s (end_announced a) = IsMade s.number a
   Fits s (names_known q ks) = AllNamed ks
   Fits s (name_found n a) = named (rank n) a
   Fits s (connect_settled k o) = Settled named replied (channel_of k) (Some o)
@@ -106,6 +115,28 @@ module _ (named : ℕ → ℕ → Type 0) (replied : ℕ → PlainResult → Typ
     ends_kept (queue_dropped a c) fits = all-changed-first (IsNamed s.number) (has_address_of a) (without_queue c) s.endpoints said.ends (λ e is well. well)
     ends_kept other fits = said.ends
 
+    -- what is owed
+    debts_kept : (q : ℕ) (f : Peer → Peer) → ((p : Peer) → OwesMade s.number p → OwesMade s.number (f p)) → AllByRecursion (OwesMade s.number) (at_peer q f s.peers)
+    debts_kept q f keep = all-changed-first (OwesMade s.number) (is_numbered q) f s.peers said.owed (λ p is well. keep p well)
+
+    also_owes : (a : Announcement) → IsMade s.number a → (p : Peer) → OwesMade s.number p → OwesMade s.number (also_owed s.number a p)
+    also_owes a fits p is = cond_both (p.number == s.number) p (record p { announcements = p.announcements ++ a ∷ [] }) (OwesMade s.number) (λ k. is) (λ k. all-append (IsMade s.number) p.announcements (a ∷ []) is (fits, tt))
+
+    put_owes : (p : Peer) → OwesMade s.number p → OwesMade s.number (first_put p)
+    put_owes p is = cond_both (length p.announcements == 0) (record p { free = p.free - 1; replies = drop 1 p.replies }) (record p { free = p.free - 1; announcements = drop 1 p.announcements }) (OwesMade s.number) (λ k. is) (λ k. all-drop (IsMade s.number) 1 p.announcements is)
+
+    owed_kept : (c : Change) → Fits s c → AllByRecursion (OwesMade s.number) (peers_after c s)
+    owed_kept (end_announced a) fits = all_mapped (OwesMade s.number) (also_owed s.number a) (also_owes a fits) s.peers said.owed
+    owed_kept (reply_owed q r) fits = debts_kept q (λ p. record p { replies = p.replies ++ r ∷ [] }) (λ p is. is)
+    owed_kept (owed_put q) fits = debts_kept q first_put put_owes
+    owed_kept (buffers_back q n) fits = debts_kept q (λ p. record p { free = p.free + n }) (λ p is. is)
+    owed_kept (frames_shown q n) fits = debts_kept q (λ p. record p { shown = n }) (λ p is. is)
+    owed_kept (frame_taken q part held) fits = debts_kept q (λ p. record p { shown = p.shown - 1; part = part }) (λ p is. is)
+    owed_kept (names_known q ks) fits = debts_kept q (λ p. record p { known = ks }) (λ p is. is)
+    owed_kept (buffers_used q n) fits = debts_kept q (λ p. record p { free = p.free - n }) (λ p is. is)
+    owed_kept other fits = said.owed
+
+    -- what is known
     peer_kept : (q : ℕ) (f : Peer → Peer) → ((p : Peer) → KnowsSaid p → KnowsSaid (f p)) → AllByRecursion KnowsSaid (at_peer q f s.peers)
     peer_kept q f keep = all-changed-first KnowsSaid (is_numbered q) f s.peers said.names (λ p is well. keep p well)
 
@@ -145,7 +176,7 @@ module _ (named : ℕ → ℕ → Type 0) (replied : ℕ → PlainResult → Typ
     settled_kept other fits = said.settled
 
     said_change : (c : Change) → Fits s c → Said (changed s c)
-    said_change c fits = record { ends = ends_kept c fits; names = names_kept c fits; settled = settled_kept c fits }
+    said_change c fits = record { ends = ends_kept c fits; owed = owed_kept c fits; names = names_kept c fits; settled = settled_kept c fits }
 
   abbrev pub FitAll : DomainState → List Change → Type 0
   FitAll s [] = Unit {0}
@@ -167,9 +198,12 @@ settled_more named named' replied replied' names replies (channel_of k) (Some ot
 settled_more named named' replied replied' names replies (message_at at max) o is = tt
 settled_more named named' replied replied' names replies (packet_at at) o is = tt
 
-pub said_more : (named named' : ℕ → ℕ → Type 0) (replied replied' : ℕ → PlainResult → Type 0) → ((n a : ℕ) → named n a → named' n a) → ((k : ℕ) (r : PlainResult) → replied k r → replied' k r) → (s : DomainState) → Said named replied s → Said named' replied' s
-said_more named named' replied replied' names replies s said = record {
-  ends = all-weaken (IsNamed named replied s.number) (IsNamed named' replied' s.number) (λ e is. names (rank (end_name s.number e.local)) e.address is) s.endpoints said.ends;
-  names = all-weaken (KnowsSaid named replied) (KnowsSaid named' replied') (λ p is. all-weaken (λ (k : EndName × ℕ). named (rank k.0) k.1) (λ k. named' (rank k.0) k.1) (λ k known. names (rank k.0) k.1 known) p.known is) s.peers said.names;
-  settled = all-weaken (IsSettled named replied) (IsSettled named' replied') (λ r is. settled_more named named' replied replied' names replies r.asked r.outcome is) s.requests said.settled;
+pub said_more : (made made' : EndName → ℕ → Type 0) (named named' : ℕ → ℕ → Type 0) (replied replied' : ℕ → PlainResult → Type 0) → ((n : EndName) (a : ℕ) → made n a → made' n a) → ((n a : ℕ) → named n a → named' n a) → ((k : ℕ) (r : PlainResult) → replied k r → replied' k r) →
+    (s : DomainState) → Said made named replied s → Said made' named' replied' s
+said_more made made' named named' replied replied' ends names replies s said = record {
+  ends = all-weaken (IsNamed made named replied s.number) (IsNamed made' named' replied' s.number) (λ e is. ends (end_name s.number e.local) e.address is) s.endpoints said.ends;
+  owed = all-weaken (OwesMade made named replied s.number) (OwesMade made' named' replied' s.number)
+      (λ p is. all-weaken (IsMade made named replied s.number) (IsMade made' named' replied' s.number) (λ a so there. ends (end_name s.number a.local) a.address (so there)) p.announcements is) s.peers said.owed;
+  names = all-weaken (KnowsSaid made named replied) (KnowsSaid made' named' replied') (λ p is. all-weaken (λ (k : EndName × ℕ). named (rank k.0) k.1) (λ k. named' (rank k.0) k.1) (λ k known. names (rank k.0) k.1 known) p.known is) s.peers said.names;
+  settled = all-weaken (IsSettled made named replied) (IsSettled made' named' replied') (λ r is. settled_more named named' replied replied' names replies r.asked r.outcome is) s.requests said.settled;
 }

@@ -60,9 +60,9 @@ module _ (n : ℕ) where
   announcement_mute : (d : ℕ) (a : Announcement) → IsMute n (announcing d a)
   announcement_mute d a = go (reading (announcing d a)) (tells_made d a)
     where
-      go : (r : Reading) → Tells a.address r → sent_by n r ≡ []
+      go : (r : Reading) → Tells d a r → sent_by n r ≡ []
       go r (tells_faulty w) = refl
-      go r (tells_name name m create is) = refl
+      go r (tells_name name m create is named created) = refl
 
   reply_mute : (r : Reply) → IsMute n (replying r)
   reply_mute r = go r.reason

@@ -13,7 +13,7 @@ use Rattle.board_model.specs.Messages.{Message, accepted, messages_queued, messa
 use Rattle.board_model.specs.Drops.{dropped}
 use Rattle.board_model.specs.Takings.{messages_taken}
 use Rattle.board_model.specs.MessageOrder.{ReceivesBest, TestsTellTaken, DeletesTellDropped, AvailableTellQueued, CancelledTookNothing}
-use Rattle.board_model.specs.Replied.{TestsTellSaid}
+use Rattle.board_model.specs.Replied.{TestsTellSaid, LookupsTellHad}
 use Rattle.board_model.specs.Places.{EveryBuffer}
 
 -- each message that was accepted was taken or dropped, or is queued or in the ring, each as often as it was accepted: any test
@@ -28,6 +28,8 @@ pub record Headline (s : Scenario) (js : List DomainJournal) : Type 0 where
   pub tests_tell_taken : AllByRecursion (TestsTellTaken s) js
   -- the test of a lookup returns an address that was said of the name, and that of a request to connect the reply that came
   pub tests_tell_said : AllByRecursion (TestsTellSaid s) js
+  -- that address is one that the name's domain gave an endpoint of the name
+  pub lookups_tell_had : AllByRecursion (LookupsTellHad s js) js
   -- the number of available messages is that of those which are queued
   pub available_tell_queued : AllByRecursion (AvailableTellQueued s) js
   -- a delete answers how many messages it dropped

@@ -1,12 +1,13 @@
 -- The laws of messages: what holds of the journals of every run of a domain, and of a board of linked domains.
 -- Source: docs/PROMISES.md, "Messages".
 use Rattle.std.specs.Prelude.{List}
+use Rattle.std.specs.List.{AllByRecursion}
 use Rattle.board_model.specs.declared.scenario.Scenario.{Scenario}
 use Rattle.board_model.specs.LinkedBoard.{IsLinkedBoard}
 use Rattle.board_model.specs.Run.{IsDomainRun}
 use Rattle.board_model.specs.Board.{DomainJournal, IsBoardRun}
 use Rattle.board_model.specs.MessageOrder.{ReceivesBest, TestsTellTaken, DeletesTellDropped, AvailableTellQueued, CancelledTookNothing}
-use Rattle.board_model.specs.Replied.{TestsTellSaid}
+use Rattle.board_model.specs.Replied.{TestsTellSaid, LookupsTellHad}
 use Rattle.board_model.specs.Headline.{NoMessageLost}
 
 -- each message receive takes the oldest queued message of the best priority, or, where none is queued, the message that comes in that
@@ -24,6 +25,11 @@ TestsTellWhatWasTaken = (s : Scenario) (j : DomainJournal) → IsLinkedBoard s �
 -- returns one that it took from the channel's peer
 abbrev pub TestsTellWhatWasSaid : Type 0
 TestsTellWhatWasSaid = (s : Scenario) (j : DomainJournal) → IsLinkedBoard s → IsDomainRun s j.line j.entries → TestsTellSaid s j
+
+-- on a board of linked domains, the address that a test or a wait returns of a lookup is one that the domain of the name gave an endpoint
+-- which it made under the name
+abbrev pub LookupsTellWhatWasHad : Type 0
+LookupsTellWhatWasHad = (s : Scenario) (js : List DomainJournal) → IsLinkedBoard s → IsBoardRun s js → AllByRecursion (LookupsTellHad s js) js
 
 -- the number of available messages is that of those which are queued
 abbrev pub AvailableTellsWhatIsQueued : Type 0

@@ -1,6 +1,7 @@
 -- Where the answers of lookups and of requests to connect come from.
 -- Source: docs/PROFILE.md, "Names", "Channels" and "Requests".
 use Rattle.std.specs.Prelude.{ℕ, Bool, true, false, ◌&&◌, ◌==◌, List, [], ◌∷◌, if◌then◌else◌, Option, None, Some, Contains}
+use Rattle.std.specs.List.{flat_map}
 use Rattle.mc_base.specs.FullName.{end_name, endpoint_named}
 use Rattle.mc_base.specs.NameMap.{rank}
 use Rattle.mc_base.specs.Letter.{accept, reject}
@@ -33,6 +34,15 @@ addresses_said name s (calls node (create_at port) (tells address)) = if rank (e
 addresses_said name s (takes peer frame_name frame word) = announced_in name peer (said_from s peer frame)
 addresses_said name s other = []
 
+-- ---- the addresses that a name had on a board: those that its domain gave endpoints which it made under the name, by the journals
+
+abbrev pub addresses_made : ℕ → DomainState → Deed → List ℕ
+addresses_made name s (calls node (create_at port) (tells address)) = if rank (end_name s.number (local node port)) == name then address ∷ [] else []
+addresses_made name s other = []
+
+abbrev pub addresses_had : Scenario → List DomainJournal → ℕ → List ℕ
+addresses_had s js name = flat_map (λ j. along (addresses_made name) (opened s j) (deeds_of s j)) js
+
 -- ---- the replies to a Connect: the Accept or the Reject of the channel that was taken from the peer to which the channel's sender, the
 -- endpoint that has it, is connecting
 
@@ -57,15 +67,24 @@ WasSaid start before (channel_of channel) was_accepted = Contains (along (replie
 WasSaid start before (channel_of channel) (was_rejected reason) = Contains (along (replies_said channel) start before) (was_rejected reason)
 WasSaid start before asked result = Unit {0}
 
-abbrev pub WasSaidOf : DomainState → List Deed → Option Request → PlainResult → Type 0
-WasSaidOf start before None result = Unit {0}
-WasSaidOf start before (Some r) result = WasSaid start before r.asked result
+-- and the address that it returns of a name is one that the name had
+abbrev pub WasHad : Scenario → List DomainJournal → Asked → PlainResult → Type 0
+WasHad s js (name_of name) (found_at address) = Contains (addresses_had s js (rank name)) address
+WasHad s js asked result = Unit {0}
 
-abbrev pub TellsSaid : DomainState → List Deed → Deed → Type 0
-TellsSaid start before (calls node (test_of place) (completes which result)) = WasSaidOf start before (request_at_place (after_deeds start before) place) result
-TellsSaid start before (calls node (wait_for requests says_place) (completes which result)) = WasSaidOf start before (request_at_place (after_deeds start before) (first_complete (after_deeds start before) requests)) result
-TellsSaid start before other = Unit {0}
+-- what a test or a wait returns is so of what its request asked
+abbrev pub IsSoOf : (Asked → PlainResult → Type 0) → Option Request → PlainResult → Type 0
+IsSoOf IsSo None result = Unit {0}
+IsSoOf IsSo (Some r) result = IsSo r.asked result
+
+abbrev pub Returns : (Asked → PlainResult → Type 0) → DomainState → Deed → Type 0
+Returns IsSo s (calls node (test_of place) (completes which result)) = IsSoOf IsSo (request_at_place s place) result
+Returns IsSo s (calls node (wait_for requests says_place) (completes which result)) = IsSoOf IsSo (request_at_place s (first_complete s requests)) result
+Returns IsSo s other = Unit {0}
 
 -- of a journal
 abbrev pub TestsTellSaid : Scenario → DomainJournal → Type 0
-TestsTellSaid s j = EachDeed (TellsSaid (opened s j)) [] (deeds_of s j)
+TestsTellSaid s j = EachDeed (λ before d. Returns (WasSaid (opened s j) before) (after_deeds (opened s j) before) d) [] (deeds_of s j)
+
+abbrev pub LookupsTellHad : Scenario → List DomainJournal → DomainJournal → Type 0
+LookupsTellHad s js j = EachDeed (λ before d. Returns (WasHad s js) (after_deeds (opened s j) before) d) [] (deeds_of s j)

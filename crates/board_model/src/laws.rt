@@ -4,6 +4,7 @@ ghost use Rattle.board_model.specs.MessageLaws.{
   ReceivesTakeTheBest,
   TestsTellWhatWasTaken,
   TestsTellWhatWasSaid,
+  LookupsTellWhatWasHad,
   AvailableTellsWhatIsQueued,
   DeletesTellWhatWasDropped,
   NoMessageIsLost,
@@ -46,6 +47,11 @@ pub fn tests_tell_what_was_taken()
 /// A test returns what was said of its request: of a lookup, an address of the name; of a request to connect, the reply.
 pub fn tests_tell_what_was_said()
     ensures { TestsTellWhatWasSaid }
+{}
+
+/// A lookup finds an address that the domain of the name gave an endpoint which it made under the name.
+pub fn lookups_tell_what_was_had()
+    ensures { LookupsTellWhatWasHad }
 {}
 
 /// The number of available messages is that of those which are queued.

@@ -1,2 +1,4 @@
 pub mod FaultRows
+pub mod FullNames
+pub mod NameFields
 pub mod Readings

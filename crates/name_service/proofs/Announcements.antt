@@ -1,36 +1,18 @@
 -- Name announcements, their fields and their spelling.
-use Rattle.std.proofs.Common.{◌≡◌, ◌<◌, ◌≤◌, ◌+◌, ◌-◌, ◌^◌, ◌∙◌, ℕ, zero, suc, Bool, true, false, List, [], ◌∷◌, ◌++◌, length, take, drop, replicate, refl, sym, ap, arith, append_assoc, length-append, length-drop, append-nil, take_all}
-use Rattle.std.proofs.lemmas.List.{drop-append-le, drop-drop, drop-replicate, length-replicate, take-append-le, take-replicate}
-use Rattle.std.proofs.Math.Seq.{drop-append_seam, drop-length, take-append-add}
+use Rattle.std.proofs.Common.{◌≡◌, ◌<◌, ◌≤◌, ◌+◌, ◌-◌, ◌^◌, ◌∙◌, ℕ, Bool, true, false, List, [], ◌∷◌, ◌++◌, length, take, drop, replicate, refl, sym, ap, arith, append_assoc, length-append, length-drop, append-nil, take_all}
+use Rattle.std.proofs.lemmas.List.{drop-append-le, drop-drop, drop-replicate, length-replicate, take-append-le}
+use Rattle.std.proofs.Math.Seq.{drop-length}
 use borrow.Rule.Slice.PartMut.{put_mid}
-use borrow.Author.Tests.{leb-true, ne_eqb}
-use Rattle.std.proofs.lemmas.Bool.{and_parts}
-use Rattle.std.specs.Prelude.{◌==◌, not, nat_le, nat_lt, take_while, IsTrue, None}
-use Rattle.std.specs.List.{list_all}
-use Rattle.std.proofs.lemmas.List.Sums.{take_while-cons}
+use Rattle.std.specs.Prelude.{◌==◌, not, nat_lt, None}
 use Rattle.byteorder.specs.Endian.{little_bytes, little_number}
 use Rattle.byteorder.specs.Numbers.{little_number-reads_back}
-use Rattle.mc_base.specs.Announcement.{IsNs, announcement, announcement_faults, flags_of, is_name, is_printable, name_in}
+use Rattle.mc_base.specs.Announcement.{IsNs, announcement, announcement_faults, flags_of, is_name, name_in}
 use Rattle.mc_base.specs.Bytes.{number_at}
 use Rattle.mc_base.specs.FaultRow.{first_fault, row}
 use Rattle.mc_base.specs.declared.fault.NsFault.TheVariants.{NsSize, NsFlags, NsName}
 use Rattle.mc_base.proofs.FaultRows.{first_fault-passed}
+use Rattle.mc_base.proofs.NameFields.{nuls, length-field, drop-field, name_in-announcement}
 use Rattle.name_service.specs.Laws.{AnnouncementsReadBack}
-
--- NUL in what is left of a name's field
-abbrev pub nuls : List ℕ → List ℕ
-nuls name = replicate (32 - length name) 0
-
--- a name's field has 32 bytes
-pub length-field : (name : List ℕ) → length name ≤ 31 → length (name ++ nuls name) ≡ 32
-length-field name short = omega (arith, length-append name (nuls name), length-replicate {A = ℕ} (32 - length name) 0)
-
--- what stands behind a name's field
-pub drop-field : (name rest : List ℕ) → length name ≤ 31 → drop 32 (name ++ (nuls name ++ rest)) ≡ rest
-drop-field name rest short =
-    let field = name ++ nuls name in
-    let long : length field ≡ 32 = length-field name short in
-    ap (drop 32) (sym (append_assoc name (nuls name) rest)) ∙ ap (λ n. drop n (field ++ rest)) (sym long) ∙ drop-append_seam field rest
 
 take-field : (name rest : List ℕ) → length name ≤ 31 → take 32 (name ++ (nuls name ++ rest)) ≡ name ++ nuls name
 take-field name rest short =
@@ -51,42 +33,6 @@ put_behind name rest new out short is =
 pub drop-nuls : (name rest : List ℕ) → length name ≤ 31 → drop (length name) (replicate 32 0 ++ rest) ≡ nuls name ++ rest
 drop-nuls name rest short =
     drop-append-le (length name) (replicate 32 0) rest (omega (arith, length-replicate {A = ℕ} 32 0)) ∙ ap (λ (xs : List ℕ). xs ++ rest) (drop-replicate (length name) 32 0)
-
--- the bytes that are no NUL
-abbrev pub is_more : ℕ → Bool
-is_more b = not (b == 0)
-
-printable_is_more : (b : ℕ) → is_printable b ≡ true → is_more b ≡ true
-printable_is_more b printable =
-    let low : 0x20 ≤ b = leb-true 0x20 b (and_parts (nat_le 0x20 b) (nat_le b 0x7e) printable).0 in
-    ap not (ne_eqb b 0 (λ e. omega arith))
-
--- the bytes before the first NUL of a name with NUL behind it
-before-nuls : (name : List ℕ) (m : ℕ) → list_all is_printable name ≡ true → take_while is_more (name ++ replicate m 0) ≡ name
-before-nuls [] zero printable = refl
-before-nuls [] (suc m) printable = refl
-before-nuls (b ∷ name) m printable =
-    let parts = and_parts (is_printable b) (list_all is_printable name) printable in
-    let more : is_more b ≡ true = printable_is_more b parts.0 in
-    let rest = before-nuls name m parts.1 in
-    take_while-cons is_more b (name ++ replicate m 0) ∙ rw (more, rest) refl
-
-first-31 : (name rest : List ℕ) → length name ≤ 31 → take 31 (name ++ (nuls name ++ rest)) ≡ name ++ replicate (31 - length name) 0
-first-31 name rest short =
-    let field = name ++ nuls name in
-    let n = length name in
-    let long : length field ≡ 32 = length-field name short in
-    let split : n + (31 - n) ≡ 31 = omega arith in
-    ap (take 31) (sym (append_assoc name (nuls name) rest))
-    ∙ take-append-le 31 field rest (omega arith)
-    ∙ ap (λ k. take k field) (sym split)
-    ∙ take-append-add name (nuls name) (31 - n)
-    ∙ ap (λ (xs : List ℕ). name ++ xs) (take-replicate (31 - n) (32 - n) 0 (omega arith))
-
-pub name_in-announcement : (name rest : List ℕ) → length name ≤ 31 → IsTrue (is_name name) → name_in (name ++ (nuls name ++ rest)) ≡ name
-name_in-announcement name rest short lawful =
-    let printable = (and_parts (nat_lt 0 (length name)) (list_all is_printable name) lawful).1 in
-    ap (take_while is_more) (first-31 name rest short) ∙ before-nuls name (31 - length name) printable
 
 flags_fit : (create : Bool) → flags_of create < 256 ^ 4
 flags_fit true = omega arith

@@ -1,5 +1,5 @@
 use Rattle.std.proofs.Common.{◌≡◌, ◌∙◌, sym, arith}
-use Rattle.name_service.proofs.FullNames.{in_range-small, none_named, full-parts, parts-full}
+use Rattle.mc_base.proofs.FullNames.{in_range-small, none_named, full-parts, parts-full}
 use Rattle.name_service.proofs.full_names.endpoint_named.Goals as goal
 
 pub returns-in_err-domain : goal.returns-in_err-domain

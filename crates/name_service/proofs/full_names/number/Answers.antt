@@ -1,5 +1,5 @@
 use Rattle.std.proofs.Common.{◌∙◌, sym, arith}
-use Rattle.name_service.proofs.FullNames.{value-read, value-refused, zero-refused}
+use Rattle.mc_base.proofs.FullNames.{value-read, value-refused, zero-refused}
 use Rattle.name_service.proofs.full_names.number.Goals as goal
 
 pub returns-clause-read : goal.returns-clause-read

@@ -4,7 +4,7 @@ use Rattle.std.specs.List.{list_any}
 use Rattle.std.proofs.lemmas.Bool.Decides.{Decides-eqb}
 use Rattle.std.proofs.lemmas.Slice.Eq.{strip_prefix_is}
 use Rattle.mc_base.specs.FullName.{colon, is_colon}
-use Rattle.name_service.proofs.FullNames.{parts_are, same_front, has_colon}
+use Rattle.mc_base.proofs.FullNames.{parts_are, same_front, has_colon}
 use Rattle.name_service.proofs.full_names.parts.Goals as goal
 
 pub returns-in_err-node-clause-only : goal.returns-in_err-node-clause-only

@@ -1,5 +1,5 @@
 use Rattle.std.proofs.Common.{◌∙◌, sym, arith}
-use Rattle.name_service.proofs.FullNames.{OneMore, no_digit, one_more, too_large}
+use Rattle.mc_base.proofs.FullNames.{OneMore, no_digit, one_more, too_large}
 use Rattle.name_service.proofs.full_names.value.Goals as goal
 
 pub returns-then-not-is_ascii_digit-clause-refused :

@@ -1,4 +1,4 @@
-use Rattle.name_service.proofs.FullNames as full_names
+use Rattle.mc_base.proofs.FullNames as full_names
 use Rattle.name_service.proofs.laws.full_names_read_back.Goals as goal
 
 pub returns-clause-read_back : goal.returns-clause-read_back

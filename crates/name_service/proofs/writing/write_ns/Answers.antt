@@ -2,7 +2,8 @@ use Rattle.std.proofs.Common.{◌≡◌, ◌≤◌, ◌-◌, ◌∙◌, ◌++◌
 use Rattle.std.proofs.lemmas.List.{drop-drop}
 use Rattle.byteorder.specs.Endian.{little_bytes}
 use Rattle.mc_base.specs.Announcement.{flags_of}
-use Rattle.name_service.proofs.Announcements.{nuls, drop-field, put_behind}
+use Rattle.mc_base.proofs.NameFields.{nuls, drop-field}
+use Rattle.name_service.proofs.Announcements.{put_behind}
 use Rattle.name_service.proofs.writing.write_ns.Goals as goal
 
 -- The numbers stand behind the name's field, and what stood behind them stays.
