@@ -3,7 +3,6 @@ pub mod Taken
 pub mod Changed
 pub mod Counted
 pub mod FramesFor
-pub mod FullNames
 pub mod Removed
 -- Lemmas over plain lists.
 pub mod OwnAddresses

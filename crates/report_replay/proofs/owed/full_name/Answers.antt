@@ -2,7 +2,7 @@ use Rattle.std.proofs.Common.{rules, arith, ◌≡◌, ◌∙◌, ap}
 use Rattle.std.proofs.lemmas.Grind.{common_steps}
 use Rattle.mc_base.specs.Announcement.{is_name}
 use Rattle.mc_base.specs.FullName.{full_name, end_name}
-use Rattle.report_replay.proofs.FullNames.{length-three, length-five, full-name-is-name}
+use Rattle.mc_base.proofs.NameFields.{length-three, length-five, full-name-is-name}
 use Rattle.report_replay.proofs.owed.full_name.Goals as goal
 
 pub push_number-requires : goal.push_number-requires
