@@ -99,6 +99,6 @@ report_of mode s journals channels messages places rings =
 abbrev pub lines_of : DomainJournal → List Line
 lines_of j = joined j.entries
 
--- the report of a run of a scenario that left these journals. It has no ring lines
-unfoldable pub report : Mode → Scenario → List DomainJournal → List ℕ
-report mode s js = report_of mode s (map lines_of js) (channel_totals s js) (totals s js) (map (places_of s js) (lanes s)) []
+-- the report of a run of a scenario that left these journals, with the lines of these rings
+abbrev pub report : Mode → Scenario → List DomainJournal → List (List ℕ) → List ℕ
+report mode s js rings = report_of mode s (map lines_of js) (channel_totals s js) (totals s js) (map (places_of s js) (lanes s)) rings

@@ -1,14 +1,11 @@
 -- The ring lines of a report, and the report of what a run left: of a run on threads with the image of each finished ring.
 -- Source: docs/FORMATS.md, "Report" and "Images of rings". A serial run closes none of its rings, so its report has no ring lines.
-use Rattle.std.specs.Prelude.{◌≡◌, ℕ, List, [], ◌∷◌, map}
+use Rattle.std.specs.Prelude.{◌≡◌, ℕ, List, [], ◌∷◌}
 use Rattle.split_ring.specs.Finished.{FinishedRing}
 use Rattle.board_model.specs.declared.scenario.LinkLine.{LinkLine}
 use Rattle.board_model.specs.declared.scenario.Scenario.{Scenario}
-use Rattle.board_model.specs.Scenario.{lanes}
 use Rattle.board_model.specs.Board.{DomainJournal}
-use Rattle.board_model.specs.Totals.{channel_totals, totals}
-use Rattle.board_model.specs.Places.{places_of}
-use Rattle.board_model.specs.Report.{Mode, serial, threads, lines_of, report_of}
+use Rattle.board_model.specs.Report.{Mode, serial, threads, report_of, report}
 use Rattle.ring_numbers.specs.RingTexts.{ring_text}
 use Rattle.ring_trace.specs.WordImage.{word_image}
 use Rattle.board_runner.specs.declared.outcome.Outcome.{Outcome}
@@ -44,4 +41,4 @@ outcome_report mode s o = report_of mode s (lines_in o.journals) o.channels o.me
 
 -- the report of a run of a scenario that left these journals, their numbers, and these rings
 abbrev pub report_left : Mode → Scenario → List DomainJournal → List FinishedRing → List ℕ
-report_left mode s js rings = report_of mode s (map lines_of js) (channel_totals s js) (totals s js) (map (places_of s js) (lanes s)) (ring_lines_in mode s.links rings)
+report_left mode s js rings = report mode s js (ring_lines_in mode s.links rings)

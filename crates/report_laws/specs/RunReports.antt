@@ -1,17 +1,14 @@
 -- The reports of whole runs, and that a report is right exactly where it is one of them.
 -- Source: docs/FORMATS.md, "Report" and "How a report is checked".
-use Rattle.std.specs.Prelude.{◌≡◌, ℕ, ◌-◌, ◌^◌, ◌<◌, List, map, length}
+use Rattle.std.specs.Prelude.{◌≡◌, ℕ, ◌-◌, ◌^◌, ◌<◌, List, length}
 use Rattle.std.specs.List.{AllByRecursion}
 use Rattle.board_model.specs.declared.scenario.Scenario.{Scenario}
-use Rattle.board_model.specs.Scenario.{lanes}
 use Rattle.board_model.specs.Board.{DomainJournal, IsBoardRun, AreWhole}
 use Rattle.board_model.specs.Language.{IsLawfulBoard}
 use Rattle.board_model.specs.LinkedBoard.{IsLinkedBoard}
 use Rattle.board_model.specs.Run.{IsDomainRun}
 use Rattle.board_model.specs.Unjoined.{unjoined}
-use Rattle.board_model.specs.Places.{places_of}
-use Rattle.board_model.specs.Report.{Mode, serial, threads, lines_of, report_of}
-use Rattle.board_model.specs.Totals.{channel_totals, totals}
+use Rattle.board_model.specs.Report.{Mode, serial, threads, lines_of, report}
 use Rattle.mc_journal.specs.EntryText.{IsEntryLine}
 use Rattle.ring_numbers.specs.InTime.{AreInTime}
 use Rattle.report_text.specs.declared.verdict.Verdict.TheVariants.{Right}
@@ -20,7 +17,7 @@ use Rattle.report_text.specs.Verdicts.{verdict_on}
 
 -- the report of journals: their lines, their numbers, and the images of rings that they come to if the board ran on threads
 abbrev pub report_due : Mode → Scenario → List DomainJournal → List ℕ
-report_due mode s js = report_of mode s (map lines_of js) (channel_totals s js) (totals s js) (map (places_of s js) (lanes s)) (rings_due mode s js)
+report_due mode s js = report mode s js (rings_due mode s js)
 
 -- on threads no buffer comes back before its frame was put. Of a serial run, which has no ring, this is not asked
 abbrev pub BacksFit : Mode → Scenario → List DomainJournal → Type 0
