@@ -58,7 +58,8 @@ abbrev pub AreOfNoBoardRun : Scenario → List JournalText → Type 0
 AreOfNoBoardRun s ts = (js : List DomainJournal) → AreTextsOf js ts → IsBoardRun s js → AreWhole s js → ⊥
 
 -- `step`: one journal is that of no run of its domain. `script`: one is that of a run that is not whole. `link`: each is that of a whole run,
--- and together they are of no whole run of the board. `total`: together they are of one; what is wrong stands behind them
+-- and together they are of no whole run of the board. `total`: together they are of one. Then a line behind them is wrong, or, on
+-- threads, a buffer comes back before its frame was put
 abbrev pub Explains : CheckReason → Scenario → List JournalText → Type 0
 Explains of.Text s ts = Unit {0}
 Explains of.Step s ts = HasOne (IsOfNoRun s) ts

@@ -42,8 +42,8 @@ abbrev pub MayLeave : Mode → Scenario → List DomainJournal → Type 0
 MayLeave serial s js = js ≡ serial_run s
 MayLeave threads s js = Unit {0}
 
--- and these rings with them: on one thread none is finished; those of threads tell the lanes of the journals, over which no buffer came back
--- before its frame was put
+-- and these rings with them: on one thread none is finished. On threads these are finished rings, of which the images, the places of the
+-- buffers and the looks of both ends are those of the journals; and no buffer came back before its frame was put
 abbrev pub MayLeaveRings : Mode → Scenario → List DomainJournal → List FinishedRing → Type 0
 MayLeaveRings serial s js rings = rings ≡ []
 MayLeaveRings threads s js rings = TellLanes s js s.links rings × AreInTime s js
