@@ -43,9 +43,9 @@ module _ (n : ℕ) where
   announcement_none : (d : ℕ) (a : Announcement) → ClosesNone (announcing d a)
   announcement_none d a = go (reading (announcing d a)) (tells_made d a)
     where
-      go : (r : Reading) → Tells a.address r → is_numbered n (close_said r) ≡ false
+      go : (r : Reading) → Tells d a r → is_numbered n (close_said r) ≡ false
       go r (tells_faulty w) = refl
-      go r (tells_name name m create is) = refl
+      go r (tells_name name m create is named created) = refl
 
   reply_none : (r : Reply) → ClosesNone (replying r)
   reply_none r = go r.reason
