@@ -1,3 +1,4 @@
+use crate::rows::assert_rows;
 use arrayvec::ArrayVec;
 use mc_base::{Fault, FrameFault, LetterFault, Ns, NsFault};
 use name_service::{
@@ -5,7 +6,7 @@ use name_service::{
     write_ns,
 };
 use rpmsg_frame::encode_into;
-use std::test::Fail;
+use std::process::Abort;
 
 /// Creates "mcapi:1:0:5" at 1024.
 const CREATE: [u8; 40] = [
@@ -14,7 +15,9 @@ const CREATE: [u8; 40] = [
 ];
 
 /// The first byte of a name and how many of it, the flags, and the first fault.
-const NAMES: [(u8, usize, u8, Option<NsFault>); 12] = [
+type Named = (u8, usize, u8, Option<NsFault>);
+
+const NAMES: [Named; 12] = [
     (0x61, 0, 0, Some(NsFault::NsName)),
     (0x61, 1, 0, None),
     (0x61, 30, 1, None),
@@ -80,19 +83,20 @@ fn announcements_are_read(rt: HostRuntime) {
     ended[12..32].fill(0xff);
     // A name of 31 bytes, and byte 31 is no part of it.
     let full = payload(0x7e, 32, 1);
-    let rows: [(&[u8], &[u8], u32, bool); 4] = [
-        (&CREATE, b"mcapi:1:0:5", 1024, true),
-        (&ended, b"mcapi:1:0:5", 1024, true),
-        (&full, &[0x7e; 31], 0, false),
-        (&payload(0x20, 1, 0), b" ", 0, true),
+    let rows = [
+        is_read(&CREATE, b"mcapi:1:0:5", 1024, true),
+        is_read(&ended, b"mcapi:1:0:5", 1024, true),
+        is_read(&full, &[0x7e; 31], 0, false),
+        is_read(&payload(0x20, 1, 0), b" ", 0, true),
     ];
-    for (bytes, name, addr, create) in rows {
-        assert!(rt; is_read(bytes, name, addr, create), "{addr} {create}");
-    }
+    assert_rows(&rt, &rows);
 }
 
 /// The announcement is written as these bytes, and the rest stays.
-fn is_written(name: ArrayVec<u8, 31>, addr: u32, create: bool, bytes: &[u8; 40]) -> bool {
+fn is_written(name: &[u8], addr: u32, create: bool, bytes: &[u8; 40]) -> bool {
+    let Some(name) = name_of(name) else {
+        return false;
+    };
     if !is_legal(name.as_slice()) {
         return false;
     }
@@ -104,19 +108,19 @@ fn is_written(name: ArrayVec<u8, 31>, addr: u32, create: bool, bytes: &[u8; 40])
 }
 
 #[test]
-fn an_announcement_is_written(rt: HostRuntime) -> Result<(), Fail> {
-    let name = name_of(b"mcapi:1:0:5").ok_or("it fits")?;
-    assert!(rt; is_written(name, 1024, true, &CREATE));
+fn an_announcement_is_written(rt: HostRuntime) {
     let mut longest = payload(0x7e, 31, 1);
     longest[32] = 4;
     longest[33] = 3;
     longest[34] = 2;
     longest[35] = 1;
-    let name = name_of(&[0x7e; 31]).ok_or("it fits")?;
-    assert!(rt; is_written(name, 0x0102_0304, false, &longest));
+    let rows = [
+        is_written(b"mcapi:1:0:5", 1024, true, &CREATE),
+        is_written(&[0x7e; 31], 0x0102_0304, false, &longest),
+    ];
+    assert_rows(&rt, &rows);
     announcements_read_back();
     no_payload_has_two_announcements();
-    Ok(())
 }
 
 /// Whether this is the first fault of the payload, and of the frame that carries it.
@@ -124,65 +128,47 @@ fn is_fault(payload: &[u8], fault: Option<NsFault>) -> bool {
     ns_fault(payload) == fault && fault_to(53, payload) == fault.map(Fault::Ns)
 }
 
-#[test]
-fn first_faults_are_told(rt: HostRuntime) {
-    for (byte, count, flags, fault) in NAMES {
-        let payload = payload(byte, count, flags);
-        assert!(rt; is_fault(&payload, fault), "{byte} {count} {flags}");
-    }
-    let mut flagged = CREATE;
-    flagged[39] = 1;
-    let payloads: [(&[u8], NsFault); 4] = [
-        (&flagged, NsFault::NsFlags),
-        (&CREATE[..39], NsFault::NsSize),
-        (&[0xff; 41], NsFault::NsSize),
-        (&[], NsFault::NsSize),
-    ];
-    for (i, (payload, fault)) in payloads.iter().enumerate() {
-        assert!(rt; ns_fault(*payload) == Some(*fault), "payload {i}");
+fn assert_faults(rt: &impl Abort, rows: &[Named]) {
+    for (i, (byte, count, flags, fault)) in rows.iter().enumerate() {
+        let payload = payload(*byte, *count, *flags);
+        assert!(rt; is_fault(&payload, *fault), "row {i}");
     }
 }
 
 #[test]
-fn a_frame_has_its_first_fault(rt: HostRuntime) {
-    let hi = [0x4d, 1, 1, 1, 0, 0, 0, 0, 0x68, 0x69];
-    // A scalar of two bytes with one byte of content.
-    let scalar = [0x4d, 1, 8, 2, 1, 0, 0, 0, 0];
+fn first_faults_are_told(rt: HostRuntime) {
+    assert_faults(&rt, &NAMES);
+    let mut flagged = CREATE;
+    flagged[39] = 1;
     let rows = [
-        (fault_to(1025, &hi), None),
-        (fault_to(53, &CREATE), None),
-        (fault_to(53, &hi), Some(Fault::Ns(NsFault::NsSize))),
-        (
-            fault_to(52, &CREATE),
-            Some(Fault::Letter(LetterFault::Magic)),
-        ),
-        (
-            fault_to(0x3500_0000, &[]),
-            Some(Fault::Letter(LetterFault::PayloadShort)),
-        ),
-        (
-            fault_to(1024, &scalar),
-            Some(Fault::Letter(LetterFault::Size)),
-        ),
-        (
-            fault_of(&[0; 15]),
-            Some(Fault::Frame(FrameFault::FrameShort)),
-        ),
-        (
-            fault_of(&[0; 16]),
-            Some(Fault::Letter(LetterFault::PayloadShort)),
-        ),
-        (
-            fault_of(&[0; 513]),
-            Some(Fault::Frame(FrameFault::FrameLong)),
-        ),
-        // The header's length is wrong, and so is the payload.
-        (
-            fault_of(&[0xff; 20]),
-            Some(Fault::Frame(FrameFault::HeaderLen)),
-        ),
+        ns_fault(&flagged) == Some(NsFault::NsFlags),
+        ns_fault(&CREATE[..39]) == Some(NsFault::NsSize),
+        ns_fault(&[0xff; 41]) == Some(NsFault::NsSize),
+        ns_fault(&[]) == Some(NsFault::NsSize),
     ];
-    for (i, (fault, due)) in rows.iter().enumerate() {
-        assert!(rt; *fault == *due, "row {i}");
-    }
+    assert_rows(&rt, &rows);
+}
+
+/// "hi" with priority 1.
+static HI: [u8; 10] = [0x4d, 1, 1, 1, 0, 0, 0, 0, 0x68, 0x69];
+
+/// A scalar of two bytes with one byte of content.
+static SCALAR: [u8; 9] = [0x4d, 1, 8, 2, 1, 0, 0, 0, 0];
+
+#[test]
+fn a_frame_has_its_first_fault(rt: HostRuntime) {
+    let rows = [
+        fault_to(1025, &HI) == None,
+        fault_to(53, &CREATE) == None,
+        fault_to(53, &HI) == Some(Fault::Ns(NsFault::NsSize)),
+        fault_to(52, &CREATE) == Some(Fault::Letter(LetterFault::Magic)),
+        fault_to(0x3500_0000, &[]) == Some(Fault::Letter(LetterFault::PayloadShort)),
+        fault_to(1024, &SCALAR) == Some(Fault::Letter(LetterFault::Size)),
+        fault_of(&[0; 15]) == Some(Fault::Frame(FrameFault::FrameShort)),
+        fault_of(&[0; 16]) == Some(Fault::Letter(LetterFault::PayloadShort)),
+        fault_of(&[0; 513]) == Some(Fault::Frame(FrameFault::FrameLong)),
+        // The header's length is wrong, and so is the payload.
+        fault_of(&[0xff; 20]) == Some(Fault::Frame(FrameFault::HeaderLen)),
+    ];
+    assert_rows(&rt, &rows);
 }

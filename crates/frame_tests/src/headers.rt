@@ -1,3 +1,4 @@
+use crate::rows::assert_rows;
 use mc_base::FrameFault;
 use rpmsg_frame::{decode, encode_into, made_is_frame, write_header};
 
@@ -31,17 +32,19 @@ fn frames_are_read(rt: HostRuntime) {
     // A header length that is shorter than the frame.
     let mut shorter = HI;
     shorter[12] = 9;
-    let rows: [(&[u8], u32, u32, &[u8]); 6] = [
-        (&HI, 1024, 1025, &HI[16..]),
-        (&more, 1024, 1025, &HI[16..]),
-        (&flagged, 1024, 1025, &HI[16..]),
-        (&largest, 0xffff_ffff, 0, &[7; 496]),
-        (&least, 0, 0xffff_ffff, &[]),
-        (&shorter, 1024, 1025, &HI[16..25]),
+    let rows = [
+        is_read(&HI, 1024, 1025, &HI[16..]),
+        is_read(&more, 1024, 1025, &HI[16..]),
+        is_read(&flagged, 1024, 1025, &HI[16..]),
+        is_read(&largest, 0xffff_ffff, 0, &[7; 496]),
+        is_read(&least, 0, 0xffff_ffff, &[]),
+        is_read(&shorter, 1024, 1025, &HI[16..25]),
     ];
-    for (bytes, src, dst, payload) in rows {
-        assert!(rt; is_read(bytes, src, dst, payload), "{src} {dst}");
-    }
+    assert_rows(&rt, &rows);
+}
+
+fn is_faulty(bytes: &[u8], fault: FrameFault) -> bool {
+    decode(bytes).err() == Some(fault)
 }
 
 #[test]
@@ -53,29 +56,29 @@ fn faults_are_told(rt: HostRuntime) {
     // Both the frame and the header's length are wrong.
     let short_and_longer = [0xff; 15];
     let long_and_longer = [0xff; 513];
-    let rows: [(&[u8], FrameFault); 8] = [
-        (&[], FrameFault::FrameShort),
-        (&HI[..15], FrameFault::FrameShort),
-        (&short_and_longer, FrameFault::FrameShort),
-        (&[0; 513], FrameFault::FrameLong),
-        (&long_and_longer, FrameFault::FrameLong),
-        (&longer, FrameFault::HeaderLen),
-        (&longer_by_one, FrameFault::HeaderLen),
-        (&HI[..25], FrameFault::HeaderLen),
+    let rows = [
+        is_faulty(&[], FrameFault::FrameShort),
+        is_faulty(&HI[..15], FrameFault::FrameShort),
+        is_faulty(&short_and_longer, FrameFault::FrameShort),
+        is_faulty(&[0; 513], FrameFault::FrameLong),
+        is_faulty(&long_and_longer, FrameFault::FrameLong),
+        is_faulty(&longer, FrameFault::HeaderLen),
+        is_faulty(&longer_by_one, FrameFault::HeaderLen),
+        is_faulty(&HI[..25], FrameFault::HeaderLen),
     ];
-    for (i, (bytes, fault)) in rows.iter().enumerate() {
-        assert!(rt; decode(*bytes).err() == Some(*fault), "row {i}");
-    }
+    assert_rows(&rt, &rows);
 }
 
 #[test]
 fn a_frame_is_written(rt: HostRuntime) {
     let mut out = [0xee; 512];
-    assert!(rt; encode_into(1024, 1025, &HI[16..], &mut out) == 26);
+    let mut is_due = encode_into(1024, 1025, &HI[16..], &mut out) == 26;
     let (written, rest) = out.split_at(26);
-    assert!(rt; written == HI.as_slice() && rest == [0xee; 486].as_slice());
+    is_due &= written == HI.as_slice();
+    is_due &= rest.iter().all(|b| *b == 0xee);
     let mut header = [0xee; 17];
     write_header(0x0403_0201, 0xffff_ffff, 0x0605, &mut header);
-    assert!(rt; header == [1, 2, 3, 4, 255, 255, 255, 255, 0, 0, 0, 0, 5, 6, 0, 0, 0xee]);
+    is_due &= header == [1, 2, 3, 4, 255, 255, 255, 255, 0, 0, 0, 0, 5, 6, 0, 0, 0xee];
+    assert!(rt; is_due);
     made_is_frame();
 }

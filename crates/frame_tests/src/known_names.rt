@@ -133,17 +133,16 @@ fn is_forgotten_once(known: &mut KnownNames, name: EndName, addr: u32) -> bool {
         && known.find(name).is_none()
 }
 
-/// Asserts that each of these names is new, and then that each is known.
-fn assert_apart(rt: &impl Abort, known: &mut KnownNames, rows: &[Named]) {
-    for (i, (domain, node, port, addr)) in rows.iter().enumerate() {
-        assert!(rt;
-            is_new(known, name(*domain, *node, *port), *addr),
-            "name {i}"
-        );
-    }
+/// Asserts that each of these names is new, or known and forgotten.
+fn assert_apart(rt: &impl Abort, known: &mut KnownNames, rows: &[Named], are_new: bool) {
     for (i, (domain, node, port, addr)) in rows.iter().enumerate() {
         let name = name(*domain, *node, *port);
-        assert!(rt; is_forgotten_once(known, name, *addr), "name {i}");
+        let is_due = if are_new {
+            is_new(known, name, *addr)
+        } else {
+            is_forgotten_once(known, name, *addr)
+        };
+        assert!(rt; is_due, "name {i}");
     }
 }
 
@@ -151,8 +150,8 @@ fn assert_apart(rt: &impl Abort, known: &mut KnownNames, rows: &[Named]) {
 fn names_that_differ_in_one_part_are_apart(rt: HostRuntime) -> Result<(), Fail> {
     let mut known = KnownNames::new(rt.alloc())?;
     // What was forgotten is learned again.
-    for _ in 0..2 {
-        assert_apart(&rt, &mut known, &APART);
+    for are_new in [true, false, true, false] {
+        assert_apart(&rt, &mut known, &APART, are_new);
     }
     Ok(())
 }

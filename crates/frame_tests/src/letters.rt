@@ -1,11 +1,23 @@
 ghost use Rattle.std.specs.Prelude.{◌≤◌, length};
 ghost use Rattle.mc_base.specs.Letter.{FitsFrame, saying_of};
 
+use crate::rows::assert_rows;
 use bridge_frame::{letters_read_back, no_payload_has_two_letters, read_letter, write_letter};
 use mc_base::{Bits, Kind, Letter, LetterFault, Priority, Reason};
 use std::alloc::Global;
 use std::process::Abort;
-use std::test::Fail;
+
+static MSG: [u8; 10] = [0x4d, 1, 1, 3, 0, 0, 0, 0, 0x68, 0x69];
+
+static PACKET: [u8; 10] = [0x4d, 1, 7, 0, 7, 0, 0, 0, 0x68, 0x69];
+
+static RECV_OPEN: [u8; 8] = [0x4d, 1, 5, 0, 7, 0, 0, 0];
+
+static SEND_OPEN: [u8; 8] = [0x4d, 1, 6, 0, 7, 0, 0, 0];
+
+static SEND_CLOSE: [u8; 8] = [0x4d, 1, 9, 0, 7, 0, 0, 0];
+
+static RECV_CLOSE: [u8; 8] = [0x4d, 1, 10, 0, 7, 0, 0, 0];
 
 const CONNECT: [u8; 8] = [0x4d, 1, 2, 1, 4, 3, 2, 1];
 
@@ -163,16 +175,11 @@ fn is_written(letter: &Letter<'_>, bytes: &[u8]) -> bool
     len == bytes.len() && written == bytes && rest.iter().all(|b| *b == 0xee)
 }
 
-/// Asserts that each row holds.
-fn assert_rows(rt: &impl Abort, rows: &[bool]) {
-    for (i, holds) in rows.iter().enumerate() {
-        assert!(rt; *holds, "row {i}");
-    }
-}
-
 #[test]
-fn each_letter_is_written(rt: HostRuntime) -> Result<(), Fail> {
-    let priority = Priority::new(3).ok_or("3 is a priority")?;
+fn each_letter_is_written(rt: HostRuntime) {
+    let (Some(priority), Some(best)) = (Priority::new(3), Priority::new(0)) else {
+        unreachable!()
+    };
     let bytes = b"hi".as_slice();
     let channel = 7;
     let msg = Letter::Msg { priority, bytes };
@@ -196,7 +203,7 @@ fn each_letter_is_written(rt: HostRuntime) -> Result<(), Fail> {
         value: u64::MAX,
     };
     let msg_part = Letter::MsgPart {
-        priority: Priority::new(0).ok_or("0 is a priority")?,
+        priority: best,
         total: 489,
         offset: 484,
         bytes: b"aaaaa",
@@ -210,25 +217,21 @@ fn each_letter_is_written(rt: HostRuntime) -> Result<(), Fail> {
     let rows = [
         is_written(&msg_part, &MSG_PART),
         is_written(&packet_part, &PACKET_PART),
-        is_written(&msg, &[0x4d, 1, 1, 3, 0, 0, 0, 0, 0x68, 0x69]),
+        is_written(&msg, &MSG),
         is_written(&connect, &CONNECT),
         is_written(&Letter::Accept { channel: 1 }, &ACCEPT),
         is_written(&reject, &REJECT),
-        is_written(&Letter::RecvOpen { channel }, &[0x4d, 1, 5, 0, 7, 0, 0, 0]),
-        is_written(&Letter::SendOpen { channel }, &[0x4d, 1, 6, 0, 7, 0, 0, 0]),
-        is_written(&packet, &[0x4d, 1, 7, 0, 7, 0, 0, 0, 0x68, 0x69]),
+        is_written(&Letter::RecvOpen { channel }, &RECV_OPEN),
+        is_written(&Letter::SendOpen { channel }, &SEND_OPEN),
+        is_written(&packet, &PACKET),
         is_written(&scalar_16, &SCALAR_16),
         is_written(&scalar_64, &SCALAR_64),
-        is_written(&Letter::SendClose { channel }, &[0x4d, 1, 9, 0, 7, 0, 0, 0]),
-        is_written(
-            &Letter::RecvClose { channel },
-            &[0x4d, 1, 10, 0, 7, 0, 0, 0],
-        ),
+        is_written(&Letter::SendClose { channel }, &SEND_CLOSE),
+        is_written(&Letter::RecvClose { channel }, &RECV_CLOSE),
     ];
     assert_rows(&rt, &rows);
     letters_read_back();
     no_payload_has_two_letters();
-    Ok(())
 }
 
 /// Whether the letter of these bytes is shown as this text.

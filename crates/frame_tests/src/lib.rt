@@ -16,3 +16,5 @@ mod known_names;
 mod letters;
 #[cfg(test)]
 mod readings;
+#[cfg(test)]
+mod rows;

@@ -1,10 +1,10 @@
 ghost use Rattle.mc_base.specs.Letter.{FitsFrame, saying_of};
 
+use crate::rows::assert_rows;
 use bridge_frame::{Letter, write_letter};
 use mc_base::{FrameFault, LetterFault, NAME_SERVICE_ADDRESS, Priority};
 use name_service::{Fault, NsFault, Said, fault_of, frames_say_what_they_carry, read_frame};
 use rpmsg_frame::encode_into;
-use std::test::Fail;
 
 /// "mcapi:1:0:5" at 1024.
 const NAME: &[u8] = b"mcapi:1:0:5\0\0\0\0\0\0\0\0\0\0\0\0\0\0\0\0\0\0\0\0\0\0\0\0\0";
@@ -50,20 +50,24 @@ fn says_packet(frame: &[u8], number: u32, byte: u8, count: usize) -> bool {
 }
 
 #[test]
-fn the_longest_letters_are_written_and_read(rt: HostRuntime) -> Result<(), Fail> {
-    let priority = Priority::new(3).ok_or("3 is a priority")?;
+fn the_longest_letters_are_written_and_read(rt: HostRuntime) {
+    let Some(priority) = Priority::new(3) else {
+        unreachable!()
+    };
     let bytes = [0xa5; 488];
     let message = Letter::Msg {
         priority,
         bytes: &bytes,
     };
-    assert!(rt; says_message(&framed(&message), 3, 0xa5, 488));
     let packet = Letter::Packet {
         channel: u32::MAX,
         bytes: &bytes,
     };
-    assert!(rt; says_packet(&framed(&packet), u32::MAX, 0xa5, 488));
-    Ok(())
+    let rows = [
+        says_message(&framed(&message), 3, 0xa5, 488),
+        says_packet(&framed(&packet), u32::MAX, 0xa5, 488),
+    ];
+    assert_rows(&rt, &rows);
 }
 
 /// A frame to the name service with this name field, address 1024 and these flags.
@@ -109,8 +113,6 @@ fn a_frame_is_faulty_announces_or_sends(rt: HostRuntime) {
         is_faulty(&[0; 513], Fault::Frame(FrameFault::FrameLong)),
         is_faulty(&[0; 16], Fault::Letter(LetterFault::PayloadShort)),
     ];
-    for (i, holds) in rows.iter().enumerate() {
-        assert!(rt; *holds, "row {i}");
-    }
+    assert_rows(&rt, &rows);
     frames_say_what_they_carry();
 }
