@@ -4,7 +4,6 @@ use crate::rings::offer_all;
 use shared_words::{Field, word_of};
 use split_ring::{Closed, Device, Driver, Ring};
 use std::alloc::Global;
-use std::test::Fail;
 
 // Fetches and gives back so many: whether all of them were there.
 fn serve_some(on: &Ring, device: &mut Device, count: u32) -> bool
@@ -34,11 +33,11 @@ fn refill(on: &Ring, driver: &mut Driver, count: u32) -> bool
     true
 }
 
-// What is left of a ring of four, all of which were offered: the device serves two and the driver refills them, each
-// after a meeting.
-fn moved_by_meetings(alloc: Global) -> Option<Closed> {
+// Whether a ring of four, all of which were offered, is left as it must be: the device serves two and the driver refills them,
+// each after a meeting.
+fn is_moved_by_meetings(alloc: Global) -> bool {
     let Ok((ring, driver, mut device, buffers)) = Ring::new(alloc, 1, 4) else {
-        return None;
+        return false;
     };
     let mut driver = offer_all(&ring, driver, buffers);
     ring.meet(&mut driver, &mut device);
@@ -46,11 +45,7 @@ fn moved_by_meetings(alloc: Global) -> Option<Closed> {
     ring.meet(&mut driver, &mut device);
     let is_back = refill(&ring, &mut driver, 2);
     let closed = ring.finish(driver, device);
-    if is_served && is_back {
-        Some(closed)
-    } else {
-        None
-    }
+    is_served && is_back && is_turned_without_looks(&closed)
 }
 
 fn is_turned_without_looks(closed: &Closed) -> bool {
@@ -66,13 +61,11 @@ fn is_turned_without_looks(closed: &Closed) -> bool {
 
 #[test]
 fn a_meeting_shows_all_without_a_look(rt: HostRuntime) {
-    assert!(rt;
-        moved_by_meetings(rt.alloc()).is_some_and(|closed| is_turned_without_looks(&closed))
-    );
+    assert!(rt; is_moved_by_meetings(rt.alloc()));
 }
 
-// What looks between meetings answer, as one moves: the device's, and the driver's.
-fn looks_between(on: &Ring, driver: &mut Driver, device: &mut Device) -> ([u32; 4], [u32; 2])
+// What looks between meetings answer, as one moves: four of the device, and two of the driver.
+fn looks_between(on: &Ring, driver: &mut Driver, device: &mut Device) -> [u32; 6]
     requires rings { (driver.old.ring ≡ on.now.ring) × (device.old.ring ≡ on.now.ring) }
 {
     on.meet(driver, device);
@@ -85,16 +78,21 @@ fn looks_between(on: &Ring, driver: &mut Driver, device: &mut Device) -> ([u32; 
     refill(on, driver, 1);
     let taken = driver.look(on);
     let fourth = device.look(on);
-    ([first, second, third, fourth], [shown, taken])
+    [first, second, third, fourth, shown, taken]
+}
+
+// Whether looks at a ring of four, all of which were offered, answer what they must.
+fn are_looks_due(alloc: Global) -> bool {
+    let Ok((ring, driver, mut device, buffers)) = Ring::new(alloc, 0, 4) else {
+        return false;
+    };
+    let mut driver = offer_all(&ring, driver, buffers);
+    looks_between(&ring, &mut driver, &mut device) == [4, 3, 3, 4, 1, 0]
 }
 
 #[test]
-fn looks_between_two_meetings_show_all_that_was_written(rt: HostRuntime) -> Result<(), Fail> {
-    let (ring, driver, mut device, buffers) = Ring::new(rt.alloc(), 0, 4)?;
-    let mut driver = offer_all(&ring, driver, buffers);
-    let (device_saw, driver_saw) = looks_between(&ring, &mut driver, &mut device);
-    assert!(rt; device_saw == [4, 3, 3, 4] && driver_saw == [1, 0]);
-    Ok(())
+fn looks_between_two_meetings_show_all_that_was_written(rt: HostRuntime) {
+    assert!(rt; are_looks_due(rt.alloc()));
 }
 
 // A full ring is half served, met, served to its end, and filled again: how many of these rounds went right.
@@ -126,12 +124,18 @@ fn has_wrapped(closed: &Closed) -> bool {
         && closed.offered_left().len() == 256
 }
 
-#[test]
-fn seventy_thousand_meetings_over_a_ring_of_256(rt: HostRuntime) -> Result<(), Fail> {
-    let (ring, driver, mut device, buffers) = Ring::new(rt.alloc(), 1, 256)?;
+// Whether 70,000 rounds over a ring of 256 leave it so.
+fn wraps(alloc: Global) -> bool {
+    let Ok((ring, driver, mut device, buffers)) = Ring::new(alloc, 1, 256) else {
+        return false;
+    };
     let mut driver = offer_all(&ring, driver, buffers);
     let done = rounds_with_meetings(&ring, &mut driver, &mut device, 70_000);
     let closed = ring.finish(driver, device);
-    assert!(rt; done == 70_000 && has_wrapped(&closed));
-    Ok(())
+    done == 70_000 && has_wrapped(&closed)
+}
+
+#[test]
+fn seventy_thousand_meetings_over_a_ring_of_256(rt: HostRuntime) {
+    assert!(rt; wraps(rt.alloc()));
 }

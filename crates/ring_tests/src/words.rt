@@ -7,7 +7,6 @@ use mc_base::Buffer;
 use shared_words::{Field, Half, RingFault, RingTable, may_cross_threads, word_of};
 use std::alloc::Global;
 use std::process::Abort;
-use std::test::Fail;
 
 /// A queue's size, one of its descriptors and places, and the words of the fields, in the order of `Field`.
 type Row = (u32, u16, [usize; 11]);
@@ -80,27 +79,46 @@ fn is_fetched(table: &RingTable, device: &mut Half) -> bool
     id == 1 && buffer.number() == 1 && len == 26
 }
 
-#[test]
-fn an_offer_is_fetched_step_by_step(rt: HostRuntime) -> Result<(), Fail> {
-    may_cross_threads();
-    let (table, mut driver, mut device, mut buffers) = RingTable::new(rt.alloc(), 1, 2)?;
+// Whether an offer over new words is fetched as it was made, and all of them come back.
+fn goes_over(alloc: Global) -> bool {
+    let Ok((table, mut driver, mut device, mut buffers)) = RingTable::new(alloc, 1, 2) else {
+        return false;
+    };
     offer(&table, &mut driver, buffers.remove(1));
     let is_fetched = is_fetched(&table, &mut device);
     let closed = table.close(driver, device);
-    assert!(rt; is_fetched && closed.words.len() == 18 && closed.home.len() == 2);
-    Ok(())
-}
-
-fn refusal(alloc: Global, queue: u8, size: u32) -> Option<RingFault> {
-    RingTable::new(alloc, queue, size).err()
+    is_fetched && closed.words.len() == 18 && closed.home.len() == 2
 }
 
 #[test]
-fn other_queues_and_sizes_are_refused(rt: HostRuntime) {
-    for size in [0, 1, 3, 257, 512] {
-        assert!(rt; matches!(refusal(rt.alloc(), 0, size), Some(RingFault::Size)));
+fn an_offer_is_fetched_step_by_step(rt: HostRuntime) {
+    may_cross_threads();
+    assert!(rt; goes_over(rt.alloc()));
+}
+
+/// Whether the words of this queue and size are refused: for the size, or else for the queue.
+fn is_refused(alloc: Global, queue: u8, size: u32, for_size: bool) -> bool {
+    match RingTable::new(alloc, queue, size).err() {
+        Some(RingFault::Size) => for_size,
+        Some(RingFault::Queue) => !for_size,
+        _ => false,
     }
-    for size in [2, 3] {
-        assert!(rt; matches!(refusal(rt.alloc(), 2, size), Some(RingFault::Queue)));
+}
+
+/// Queues and sizes, and whether the size is what is refused.
+static REFUSED: [(u8, u32, bool); 7] = [
+    (0, 0, true),
+    (0, 1, true),
+    (0, 3, true),
+    (0, 257, true),
+    (0, 512, true),
+    (2, 2, false),
+    (2, 3, false),
+];
+
+#[test]
+fn other_queues_and_sizes_are_refused(rt: HostRuntime) {
+    for (queue, size, for_size) in &REFUSED {
+        assert!(rt; is_refused(rt.alloc(), *queue, *size, *for_size), "{size}");
     }
 }
