@@ -71,7 +71,7 @@ pairs_parts (Some x) None r bs e = absurd cc
 pairs_parts (Some x) (Some y) None bs e = absurd cc
 pairs_parts (Some x) (Some y) (Some ys) bs e = (x, y, ys, refl, refl, refl, cc)
 
-pairs-are : (ds bs : List ℕ) → list_all is_small ds ≡ true → pairs_of ds ≡ Some bs → flat_map hex_byte bs ≡ ds
+pub pairs-are : (ds bs : List ℕ) → list_all is_small ds ≡ true → pairs_of ds ≡ Some bs → flat_map hex_byte bs ≡ ds
 pairs-are [] bs small e = let none : [] ≡ bs = cc in ap (flat_map hex_byte) (sym none)
 pairs-are (a ∷ []) bs small e = absurd cc
 pairs-are (a ∷ b ∷ ds) bs small e =

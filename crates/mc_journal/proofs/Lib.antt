@@ -2,6 +2,7 @@ pub mod AnswerText
 pub mod AnswersRead
 pub mod BytesRead
 pub mod Cuts
+pub mod DigitsAlone
 mod DigitsRead
 pub mod DoneRead
 pub mod Journals

@@ -24,7 +24,7 @@ pub use entry_text::write_entry;
 pub use journal::Journal;
 pub use laws::entries_have_entry_lines;
 pub use reading::{NotAnEntry, read_entry};
-pub use spelled::{bytes_spelled, spelled_entry, spells};
+pub use spelled::{bytes_spelled, spell_same, spelled_entry, spells};
 pub use text::put_entries;
 pub use threads::may_cross_threads;
 pub use words::{fate_word, reason_word};

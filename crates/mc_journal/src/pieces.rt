@@ -76,7 +76,7 @@ fn byte_of_digits(pair: u16) -> u8
 ///
 /// A pair is read as one number, and its byte is calculated in 16 bits: LLVM then compiles the loop to vectors. It would gather two
 /// neighbouring bytes one by one.
-fn decode_lower(word: &[u8], out: &mut [u8])
+pub fn decode_lower(word: &[u8], out: &mut [u8])
     requires size { length word.now ≡ 2 * length out.old }
     requires lower { list_all is_lower word.now ≡ true }
     ensures { pairs_of word.now ≡ Some out.new }

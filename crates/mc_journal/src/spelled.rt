@@ -1,24 +1,23 @@
 //! Entries of a journal, read from their lines with the digits of their bytes as they stand there. Nothing is decoded, and no room is
 //! needed. The readers are those of `reading` and `answers`, form by form.
 
-ghost use Rattle.std.specs.Prelude.{◌≡◌, ◌≤◌, ◌*◌, ◌+◌, ◌/◌, ◌%◌, option_map, length};
+ghost use Rattle.std.specs.Prelude.{◌≡◌, ℕ, ◌≤◌, ◌*◌, ◌+◌, ◌/◌, ◌%◌, true, IfSome, option_map, length};
 ghost use Rattle.std.specs.List.{flat_map};
 ghost use Rattle.std.specs.Str.{bytes_eq};
 ghost use Rattle.mc_base.specs.Text.{hex_digit, hex_byte};
-ghost use Rattle.board_model.specs.FileWords.{pairs_of};
 ghost use Rattle.board_model.specs.Journal.{taken};
 ghost use Rattle.mc_journal.specs.Entry.{line_of_entry, plain_answer, result_of_told};
 ghost use Rattle.mc_journal.specs.LineForms.{line_in};
 ghost use Rattle.mc_journal.specs.declared.forms.Form.TheVariants as form;
 ghost use Rattle.mc_journal.specs.Readers.{answer_after, answer_in, answer_word, cut_at, cut_in, done_after, done_in, ok_in, peer_in, place_in, placed_by, rest_in, result_after, result_word, taken_in, whole_in};
-ghost use Rattle.mc_journal.specs.Spelled.{spelled, spelled_answer, spelled_line, spelled_result};
+ghost use Rattle.mc_journal.specs.Spelled.{AreDigits, frame_digits, spelled, spelled_answer, spelled_line, spelled_result};
 
 use crate::answers::count_of;
 use crate::entry::{Answer, Entry, Told};
 use crate::forms::{Form, form_of, form_word};
-use crate::pieces::{cut, digits_of};
+use crate::pieces::{cut, decode_lower, digits_of};
 use crate::tables::{fate_of, reason_of, refusal_of};
-use board_model::{decode_pairs, number_to};
+use board_model::number_to;
 use mc_base::Fate;
 
 /// Returns the two digits of a byte as one number, the first in the low byte.
@@ -37,7 +36,8 @@ fn digits_of_byte(byte: u8) -> u16
 ///
 /// Two digits are compared as one number of 16 bits, and the loop does not end early: LLVM then compiles it to vectors.
 pub fn spells(digits: &[u8], bytes: &[u8]) -> bool
-    ensures { result ≡ bytes_eq digits.now (flat_map hex_byte bytes.now) }
+    ensures value { result ≡ bytes_eq digits.now (flat_map hex_byte bytes.now) }
+    ensures bytes { result ≡ true → spelled digits.now ≡ bytes.now }
 {
     if digits.len() % 2 != 0 {
         return false;
@@ -53,39 +53,35 @@ pub fn spells(digits: &[u8], bytes: &[u8]) -> bool
     all
 }
 
-/// Writes the bytes that pairs of digits spell to the front of the room, and returns them.
-fn bytes_of_pairs<'a>(word: &[u8], room: &'a mut [u8]) -> Option<&'a [u8]>
-    requires { length word.now ≤ length room.old }
-    ensures { option_map (λ t. t.now) result ≡ pairs_of word.now }
+/// Whether two frames are the same, by their digits.
+pub fn spell_same(one: &[u8], two: &[u8]) -> bool
+    requires one { AreDigits one.now }
+    requires two { AreDigits two.now }
+    ensures { result ≡ bytes_eq (spelled one.now) (spelled two.now) }
 {
-    if word.len() % 2 != 0 {
-        return None;
-    }
-    let out = &mut room[..word.len() / 2];
-    if decode_pairs(word, out) {
-        Some(out)
-    } else {
-        None
-    }
+    one == two
 }
 
-/// Returns the bytes that digits spell, none where they spell none. They are written to `room`.
+/// Returns the bytes that digits spell. They are written to `room`.
 pub fn bytes_spelled<'a>(digits: &[u8], room: &'a mut [u8]) -> &'a [u8]
-    requires { length digits.now ≤ length room.old }
+    requires digits { AreDigits digits.now }
+    requires room { length digits.now ≤ length room.old }
     ensures { result.now ≡ spelled digits.now }
 {
-    match bytes_of_pairs(digits, room) {
-        Some(bytes) => bytes,
-        None => &[],
-    }
+    let out = &mut room[..digits.len() / 2];
+    decode_lower(digits, out);
+    out
 }
 
 /// Reads an entry from its line, without the newline, with digits in place of its bytes: the frame of a put or a take, and the bytes of an
-/// answer or of a result. The line is that of the entry whose bytes these digits spell. It takes no memory.
+/// answer or of a result. The line is that of the entry whose bytes these digits spell. The digits of a frame are of lower case, two for each
+/// byte. It takes no memory.
 ///
 /// `None` exactly where the line is the text of no entry (docs/FORMATS.md, "Journal text").
 pub fn spelled_entry<'a>(line: &'a [u8]) -> Option<Entry<'a>>
-    ensures { option_map (λ e. spelled_line (line_of_entry e)) result ≡ line_in line.now }
+    ensures line { option_map (λ e. spelled_line (line_of_entry e)) result ≡ line_in line.now }
+    ensures digits { IfSome result (λ e. AreDigits (frame_digits e)) }
+    ensures few { (most : ℕ) → length line.now ≤ most → IfSome result (λ e. length (frame_digits e) ≤ most) }
 {
     match cut(line) {
         None if line == form_word(Form::Turn) => Some(Entry::Turn),
@@ -96,7 +92,9 @@ pub fn spelled_entry<'a>(line: &'a [u8]) -> Option<Entry<'a>>
 
 /// Returns the entry of a form, of which a blank and this rest follow the word.
 fn entry_behind<'a>(form: Form, rest: &'a [u8]) -> Option<Entry<'a>>
-    ensures { option_map (λ e. spelled_line (line_of_entry e)) result ≡ rest_in form rest.now }
+    ensures line { option_map (λ e. spelled_line (line_of_entry e)) result ≡ rest_in form rest.now }
+    ensures digits { IfSome result (λ e. AreDigits (frame_digits e)) }
+    ensures few { (most : ℕ) → length rest.now ≤ most → IfSome result (λ e. length (frame_digits e) ≤ most) }
 {
     match form {
         Form::Idle => idle_of(rest),
@@ -113,7 +111,9 @@ fn entry_behind<'a>(form: Form, rest: &'a [u8]) -> Option<Entry<'a>>
 }
 
 fn idle_of<'a>(rest: &'a [u8]) -> Option<Entry<'a>>
-    ensures { option_map (λ e. spelled_line (line_of_entry e)) result ≡ rest_in form.Idle rest.now }
+    ensures line { option_map (λ e. spelled_line (line_of_entry e)) result ≡ rest_in form.Idle rest.now }
+    ensures digits { IfSome result (λ e. AreDigits (frame_digits e)) }
+    ensures few { (most : ℕ) → length rest.now ≤ most → IfSome result (λ e. length (frame_digits e) ≤ most) }
 {
     Some(Entry::Idle {
         turns: number_to(u64::MAX, rest)?,
@@ -121,7 +121,9 @@ fn idle_of<'a>(rest: &'a [u8]) -> Option<Entry<'a>>
 }
 
 fn again_of<'a>(rest: &'a [u8]) -> Option<Entry<'a>>
-    ensures { option_map (λ e. spelled_line (line_of_entry e)) result ≡ rest_in form.Again rest.now }
+    ensures line { option_map (λ e. spelled_line (line_of_entry e)) result ≡ rest_in form.Again rest.now }
+    ensures digits { IfSome result (λ e. AreDigits (frame_digits e)) }
+    ensures few { (most : ℕ) → length rest.now ≤ most → IfSome result (λ e. length (frame_digits e) ≤ most) }
 {
     Some(Entry::Again {
         word: refusal_of(rest)?,
@@ -129,7 +131,9 @@ fn again_of<'a>(rest: &'a [u8]) -> Option<Entry<'a>>
 }
 
 fn spin_of<'a>(rest: &'a [u8]) -> Option<Entry<'a>>
-    ensures { option_map (λ e. spelled_line (line_of_entry e)) result ≡ rest_in form.Spin rest.now }
+    ensures line { option_map (λ e. spelled_line (line_of_entry e)) result ≡ rest_in form.Spin rest.now }
+    ensures digits { IfSome result (λ e. AreDigits (frame_digits e)) }
+    ensures few { (most : ℕ) → length rest.now ≤ most → IfSome result (λ e. length (frame_digits e) ≤ most) }
 {
     let (times, word) = cut(rest)?;
     Some(Entry::Spin {
@@ -145,7 +149,9 @@ fn peer_of(word: &[u8]) -> Option<u8>
 }
 
 fn back_of<'a>(rest: &'a [u8]) -> Option<Entry<'a>>
-    ensures { option_map (λ e. spelled_line (line_of_entry e)) result ≡ rest_in form.Back rest.now }
+    ensures line { option_map (λ e. spelled_line (line_of_entry e)) result ≡ rest_in form.Back rest.now }
+    ensures digits { IfSome result (λ e. AreDigits (frame_digits e)) }
+    ensures few { (most : ℕ) → length rest.now ≤ most → IfSome result (λ e. length (frame_digits e) ≤ most) }
 {
     let (peer, count) = cut(rest)?;
     Some(Entry::Back {
@@ -155,7 +161,9 @@ fn back_of<'a>(rest: &'a [u8]) -> Option<Entry<'a>>
 }
 
 fn put_of<'a>(rest: &'a [u8]) -> Option<Entry<'a>>
-    ensures { option_map (λ e. spelled_line (line_of_entry e)) result ≡ rest_in form.Put rest.now }
+    ensures line { option_map (λ e. spelled_line (line_of_entry e)) result ≡ rest_in form.Put rest.now }
+    ensures digits { IfSome result (λ e. AreDigits (frame_digits e)) }
+    ensures few { (most : ℕ) → length rest.now ≤ most → IfSome result (λ e. length (frame_digits e) ≤ most) }
 {
     let (peer, frame) = cut(rest)?;
     Some(Entry::Put {
@@ -165,7 +173,9 @@ fn put_of<'a>(rest: &'a [u8]) -> Option<Entry<'a>>
 }
 
 fn see_of<'a>(rest: &'a [u8]) -> Option<Entry<'a>>
-    ensures { option_map (λ e. spelled_line (line_of_entry e)) result ≡ rest_in form.See rest.now }
+    ensures line { option_map (λ e. spelled_line (line_of_entry e)) result ≡ rest_in form.See rest.now }
+    ensures digits { IfSome result (λ e. AreDigits (frame_digits e)) }
+    ensures few { (most : ℕ) → length rest.now ≤ most → IfSome result (λ e. length (frame_digits e) ≤ most) }
 {
     let (peer, count) = cut(rest)?;
     Some(Entry::See {
@@ -175,7 +185,9 @@ fn see_of<'a>(rest: &'a [u8]) -> Option<Entry<'a>>
 }
 
 fn take_of<'a>(rest: &'a [u8]) -> Option<Entry<'a>>
-    ensures { option_map (λ e. spelled_line (line_of_entry e)) result ≡ rest_in form.Take rest.now }
+    ensures line { option_map (λ e. spelled_line (line_of_entry e)) result ≡ rest_in form.Take rest.now }
+    ensures digits { IfSome result (λ e. AreDigits (frame_digits e)) }
+    ensures few { (most : ℕ) → length rest.now ≤ most → IfSome result (λ e. length (frame_digits e) ≤ most) }
 {
     let (peer, what) = cut(rest)?;
     let peer = peer_of(peer)?;
@@ -185,14 +197,18 @@ fn take_of<'a>(rest: &'a [u8]) -> Option<Entry<'a>>
 
 /// Returns a frame that was taken, and what became of it.
 fn taken_of<'a>(text: &'a [u8]) -> Option<(&'a [u8], Fate)>
-    ensures { option_map (λ x. taken (spelled x.0.now) x.1) result ≡ taken_in text.now }
+    ensures frame { option_map (λ x. taken (spelled x.0.now) x.1) result ≡ taken_in text.now }
+    ensures digits { IfSome result (λ x. AreDigits x.0.now) }
+    ensures few { (most : ℕ) → length text.now ≤ most → IfSome result (λ x. length x.0.now ≤ most) }
 {
     let (frame, fate) = cut(text)?;
     Some((digits_of(frame)?, fate_of(fate)?))
 }
 
 fn wait_of<'a>(rest: &'a [u8]) -> Option<Entry<'a>>
-    ensures { option_map (λ e. spelled_line (line_of_entry e)) result ≡ rest_in form.Wait rest.now }
+    ensures line { option_map (λ e. spelled_line (line_of_entry e)) result ≡ rest_in form.Wait rest.now }
+    ensures digits { IfSome result (λ e. AreDigits (frame_digits e)) }
+    ensures few { (most : ℕ) → length rest.now ≤ most → IfSome result (λ e. length (frame_digits e) ≤ most) }
 {
     Some(Entry::WaitStart {
         number: count_of(rest)?,
@@ -200,7 +216,9 @@ fn wait_of<'a>(rest: &'a [u8]) -> Option<Entry<'a>>
 }
 
 fn call_of<'a>(rest: &'a [u8]) -> Option<Entry<'a>>
-    ensures { option_map (λ e. spelled_line (line_of_entry e)) result ≡ rest_in form.Call rest.now }
+    ensures line { option_map (λ e. spelled_line (line_of_entry e)) result ≡ rest_in form.Call rest.now }
+    ensures digits { IfSome result (λ e. AreDigits (frame_digits e)) }
+    ensures few { (most : ℕ) → length rest.now ≤ most → IfSome result (λ e. length (frame_digits e) ≤ most) }
 {
     let (number, answer) = cut(rest)?;
     Some(Entry::Called {
