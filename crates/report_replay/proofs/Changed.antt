@@ -10,7 +10,8 @@ use Rattle.std.proofs.lemmas.List.{append-nil, drop_all, length-map, take_all, w
 use Rattle.std.proofs.lemmas.Option.{slice_get_read}
 use Rattle.board_model.specs.Lists.{changed_at, changed, changed_first}
 use Rattle.board_model.proofs.MessageLists.{changed-position, get-position}
-use Rattle.board_model.specs.State.{Item, Peer, Endpoint, Request, waits_at, has_item, DomainState, is_numbered, is_owed_end, has_address_of, place_of_peer, place_of_address, peer_at, endpoint_of}
+use Rattle.board_model.specs.Parts.{part_in, part_of}
+use Rattle.board_model.specs.State.{Item, Part, Peer, Endpoint, Request, waits_at, has_item, DomainState, is_numbered, is_owed_end, has_address_of, place_of_peer, place_of_address, peer_at, endpoint_of}
 use Rattle.mc_base.specs.declared.name.Local.{Local}
 use Rattle.mc_base.specs.declared.name.EndName.{EndName}
 use Rattle.mc_base.specs.declared.refusal.Refusal.{Refusal}
@@ -98,6 +99,16 @@ pub ends-kept : (m t : DomainState) (ended : List ℕ) (ps : List Peer) → ende
 ends-kept m t ended ps kept all same =
     ap (λ (rest : List ℕ). record m { ended = rest }) (kept ∙ ap (λ (qs : List Peer). filter (is_owed_end qs) m.ended) all)
     ∙ ap (λ (s : DomainState). record s { ended = filter (is_owed_end s.peers) s.ended }) same
+
+-- the open part of the peer at a place, and of none
+pub part-at : (now : DomainState) (n : ℕ) (s : DomainState) (place : Option ℕ) (i : ℕ) (x : Peer) (part : Option Part) → s ≡ now → place ≡ place_of_peer now n → place ≡ Some i → x ≡ get_or s.peers i x → x.part ≡ part → part_of now n ≡ part
+part-at now n s place i x part same was is read has =
+    ap (λ (t : DomainState). part_of t n) (sym same)
+    ∙ ap part_in (found-at (is_numbered n) s.peers i x (ap (λ (t : DomainState). place_of_peer t n) same ∙ sym was ∙ is) read)
+    ∙ has
+
+pub part-nowhere : (now : DomainState) (n : ℕ) (place : Option ℕ) → place ≡ place_of_peer now n → place ≡ None → part_of now n ≡ None
+part-nowhere now n place was is = ap part_in (found-none (is_numbered n) now.peers (sym was ∙ is))
 
 -- the names that are known of the peer at a place
 pub known-at : (now : DomainState) (n : ℕ) (s : DomainState) (place : Option ℕ) (i : ℕ) (x : Peer) (known : Names) → s ≡ now → place ≡ place_of_peer now n → place ≡ Some i → x ≡ get_or s.peers i x → x.known ≡ known → names_of (peer_at now n) ≡ known

@@ -1,8 +1,8 @@
--- The row of a message, of a letter at an end of a channel, and of a part.
-use Rattle.std.proofs.Common.{◌≡◌, ℕ, Bor, Bool, true, false, cond, List, [], ◌∷◌, ◌++◌, Option, Some, None, refl, sym, ap, subst, ◌∙◌}
+-- The row of a message, and of a letter at an end of a channel.
+use Rattle.std.proofs.Common.{◌≡◌, ℕ, Bor, Bool, true, false, cond, List, [], ◌∷◌, ◌++◌, Option, Some, None, refl, sym, ap, ◌∙◌}
 use Rattle.std.specs.List.{flat_map}
-use Rattle.mc_base.specs.Letter.{PlainLetter, Piece, piece_in, plain_letter, saying_by, saying_of}
-use Rattle.mc_base.specs.Reading.{brings, says_so}
+use Rattle.mc_base.specs.Letter.{PlainLetter, msg, piece_in, plain_letter, saying_by, saying_of}
+use Rattle.mc_base.specs.Reading.{says_so}
 use Rattle.mc_base.specs.declared.channel.Kind.{Kind}
 use Rattle.mc_base.specs.declared.letter.Letter.{Letter}
 use Rattle.mc_base.specs.declared.letter.Letter.TheVariants as letter
@@ -10,13 +10,10 @@ use Rattle.mc_base.specs.declared.fate.Fate.{Fate}
 use Rattle.mc_base.specs.declared.fate.Fate.TheVariants as fate
 use Rattle.board_model.specs.Change.{item_handed, item_lost, item_queued}
 use Rattle.board_model.specs.ChannelEnds.{EndRow, end_row_of, end_rows, first_end_row, left_row}
-use Rattle.board_model.specs.Parts.{came_by, coming, part_of}
-use Rattle.board_model.specs.State.{ChannelEnd, DomainState, Endpoint, Item, endpoint_of, held_of, one_waits}
+use Rattle.board_model.specs.State.{ChannelEnd, DomainState, Endpoint, Item, endpoint_of, one_waits}
 use Rattle.board_model.specs.TakenFrames.{Row, channel_rows, first_row, last_row, letter_rows, message_rows, row, row_of, rows_by}
-use Rattle.report_replay.specs.Ends.{acted, came_over, end_at, end_to, item_by, kept, left_by, letter_at, message_at, message_to, word_at}
-use Rattle.report_replay.specs.Read.{came_read, row_read}
-use Rattle.report_replay.specs.Verdicts.{Follows, known_of}
-use Rattle.report_replay.specs.declared.verdict.Verdict.TheVariants as verdict
+use Rattle.report_replay.specs.Ends.{acted, came_in, end_at, end_to, item_by, kept, left_by, letter_at, message_at, message_to, word_at}
+use Rattle.report_replay.specs.Verdicts.{Keeps}
 use Rattle.report_replay.specs.declared.way.Way.{Way}
 use Rattle.report_replay.specs.declared.ends.Heard.{Heard}
 
@@ -61,21 +58,25 @@ module _ (s : DomainState) (dst : ℕ) (x : Endpoint) (i : Item) (l : PlainLette
       go true same = applies r.word r.leaves (flat_map rows_of rs)
       go false same = passes r.word r.leaves (flat_map rows_of rs) ∙ same
 
--- ---- at the endpoint that a letter goes to
+-- ---- at the endpoint that a letter goes to, with the item that it brings
 
-pub message-kept : (s : DomainState) (w : Way) (l : PlainLetter) (x : Endpoint) → Some x ≡ endpoint_of s w.destination → None ≡ x.channel → kept s w.destination x.local (item_by w l) ≡ first_row (message_at s w l)
-message-kept s w l x there none = ap (λ o. first_row (message_rows s w.destination x o (item_by w l))) none ∙ ap (λ o. first_row (message_to s w o l)) there
+pub keeps : (at : ℕ) (i : Item) (b : Bool) → Keeps at b i (cond b (row b fate.Handed (item_handed at i ∷ [])) (row true fate.Queued (item_queued at i ∷ [])))
+keeps at i true = record { word = refl; changes = refl }
+keeps at i false = record { word = refl; changes = refl }
 
-module _ (s : DomainState) (w : Way) (l : PlainLetter) (x : Endpoint) (there : Some x ≡ endpoint_of s w.destination) (c : ChannelEnd) (channel : Some c ≡ x.channel) (h : Heard) (word : word_at h ≡ (end_row_of w.peer (Some c) l).word) (left : left_by c h ≡ (end_row_of w.peer (Some c) l).leaves) where
+pub message-kept : (s : DomainState) (w : Way) (i : Item) (x : Endpoint) → Some x ≡ endpoint_of s w.destination → None ≡ x.channel → kept s w.destination x.local i ≡ first_row (message_at s w i)
+message-kept s w i x there none = ap (λ o. first_row (message_rows s w.destination x o i)) none ∙ ap (λ o. first_row (message_to s w o i)) there
+
+module _ (s : DomainState) (w : Way) (l : PlainLetter) (i : Item) (x : Endpoint) (there : Some x ≡ endpoint_of s w.destination) (c : ChannelEnd) (channel : Some c ≡ x.channel) (h : Heard) (word : word_at h ≡ (end_row_of w.peer (Some c) l).word) (left : left_by c h ≡ (end_row_of w.peer (Some c) l).leaves) where
   abbrev rows : Option Endpoint → Row
-  rows o = first_row (end_to s w o l)
+  rows o = first_row (end_to s w o i l)
 
-  pub heard-row : row_at s w.destination x (item_by w l) l (word_at h) (left_by c h) ≡ rows (endpoint_of s w.destination)
+  pub heard-row : row_at s w.destination x i l (word_at h) (left_by c h) ≡ rows (endpoint_of s w.destination)
   heard-row =
-      ap (λ f. row_at s w.destination x (item_by w l) l f (left_by c h)) word
-      ∙ ap (λ o. row_at s w.destination x (item_by w l) l (end_row_of w.peer (Some c) l).word o) left
-      ∙ sym (first-at s w.destination x (item_by w l) l c (end_rows w.peer c l))
-      ∙ ap (λ o. first_row (channel_rows s w.peer w.destination x o (item_by w l) l)) channel
+      ap (λ f. row_at s w.destination x i l f (left_by c h)) word
+      ∙ ap (λ o. row_at s w.destination x i l (end_row_of w.peer (Some c) l).word o) left
+      ∙ sym (first-at s w.destination x i l c (end_rows w.peer c l))
+      ∙ ap (λ o. first_row (channel_rows s w.peer w.destination x o i l)) channel
       ∙ ap rows there
 
 -- a letter that is no Connect, no message and no part is one to an end
@@ -89,32 +90,24 @@ module _ (s : DomainState) (w : Way) where
   is-whole (letter.PacketPart channel total offset bytes) others = absurd (others.3 channel total offset bytes refl)
   is-whole other others = refl
 
-  pub to-an-end : (l : Letter) → Others l → end_at s w (plain_letter l) ≡ letter_at s w (plain_letter l)
-  to-an-end l others = go l (endpoint_of s w.destination) others
+  pub to-an-end : (names : List ℕ) (l : Letter) → Others l → end_at s w (item_by w names (plain_letter l)) (plain_letter l) ≡ letter_at s w names (plain_letter l)
+  to-an-end names l others = go l (endpoint_of s w.destination) others
     where
-      go : (l : Letter) (o : Option Endpoint) → Others l → end_to s w o (plain_letter l) ≡ letter_rows s w.peer (came_over w) w.source w.destination o (plain_letter l)
+      go : (l : Letter) (o : Option Endpoint) → Others l → end_to s w o (item_by w names (plain_letter l)) (plain_letter l) ≡ letter_rows s w.peer (came_in names) w.source w.destination o (plain_letter l)
       go (letter.Connect channel kind) o others = absurd (others.0 channel kind refl)
       go (letter.Msg priority bytes) o others = absurd (others.1 priority bytes refl)
       go (letter.MsgPart priority total offset bytes) o others = absurd (others.2 priority total offset bytes refl)
       go other None others = refl
       go other (Some e) others = refl
 
--- ---- as they are read of a frame
+  -- what it says, whole
+  pub whole-row : (names : List ℕ) (l : Letter) → piece_in l ≡ None → row_of s w.peer (came_in names) (says_so w.source w.destination (saying_of l)) ≡ first_row (letter_at s w names (plain_letter l))
+  whole-row names l whole = ap (λ o. row_of s w.peer (came_in names) (says_so w.source w.destination (saying_by o (plain_letter l)))) whole
 
--- a whole letter says the same whether a part is open or not
-pub whole-row : (s : DomainState) (w : Way) (l : Letter) → piece_in l ≡ None → row_read s w.peer (Some w.name) (says_so w.source w.destination (saying_of l)) ≡ first_row (letter_at s w (plain_letter l))
-whole-row s w l whole = ap (λ o. row_read s w.peer (Some w.name) (says_so w.source w.destination (saying_by o (plain_letter l)))) whole
-
-pub whole-part : (s : DomainState) (w : Way) (l : Letter) → piece_in l ≡ None → (came_read s w.peer (Some w.name) (says_so w.source w.destination (saying_of l))).part ≡ None
-whole-part s w l whole = ap (λ o. (came_read s w.peer (Some w.name) (says_so w.source w.destination (saying_by o (plain_letter l)))).part) whole
-
--- where no part is open, a part is stray
-module _ (s : DomainState) (peer name : ℕ) (none : part_of s peer ≡ None) (a b : ℕ) (q : Piece) where
-  pub stray-row : row_read s peer (Some name) (brings a b q) ≡ row true fate.Stray []
-  stray-row = ap (λ o. row_of s peer (came_by (coming o (brings a b q)) (held_of s peer) (Some name)) (coming o (brings a b q)).reading) none
-
-  pub stray-part : (came_read s peer (Some name) (brings a b q)).part ≡ None
-  stray-part = ap (λ o. (came_by (coming o (brings a b q)) (held_of s peer) (Some name)).part) none
-
-  pub strays : Follows peer (known_of s peer) (row_read s peer (Some name) (brings a b q)) (verdict.Nothing fate.Stray)
-  strays = subst (λ r. Follows peer (known_of s peer) r (verdict.Nothing fate.Stray)) (sym stray-row) (record { word = refl; changes = refl; room = tt })
+-- a message is one to the endpoint
+pub to-a-message : (s : DomainState) (w : Way) (names : List ℕ) (priority : ℕ) (bytes : List ℕ) → message_at s w (item_by w names (msg priority bytes)) ≡ letter_at s w names (msg priority bytes)
+to-a-message s w names priority bytes = go (endpoint_of s w.destination)
+  where
+    go : (o : Option Endpoint) → message_to s w o (item_by w names (msg priority bytes)) ≡ letter_rows s w.peer (came_in names) w.source w.destination o (msg priority bytes)
+    go None = refl
+    go (Some e) = refl

@@ -1,6 +1,9 @@
 pub mod Letters
 pub mod Taken
+pub mod TakenWhole
 pub mod Changed
+pub mod Comings
+pub mod VerdictsDone
 pub mod Counted
 pub mod FramesFor
 pub mod Removed

@@ -1,55 +1,120 @@
--- What a frame that is taken leaves of a peer.
-use Rattle.std.proofs.Common.{◌≡◌, ℕ, Bool, true, false, cond, List, [], ◌∷◌, ◌++◌, map, Option, None, Some, refl, sym, ap, ◌∙◌}
-use Rattle.std.specs.Prelude.{◌-◌, find, filter, not}
+-- A frame that is taken leaves all but the part of its peer as it was, so that its row is that of the state before.
+use Rattle.std.proofs.Common.{◌≡◌, ℕ, ◌<◌, Bool, true, false, cond, List, [], ◌∷◌, ◌++◌, map, Option, None, Some, append-nil, append_assoc, refl, sym, ap, subst, ◌∙◌, Result, Ok, Err, OnOk, IfOk}
+use Rattle.std.specs.Prelude.{◌-◌, ◌==◌, filter, find, is_some, length, nat_le, not}
+use Rattle.mc_base.specs.Letter.{PlainLetter, Piece, msg, connect, accept, reject, recv_open, send_open, packet, scalar, send_close, recv_close}
+use Rattle.mc_base.specs.FullName.{endpoint_named}
+use Rattle.mc_base.specs.Reading.{Reading, is_faulty, announces, says, brings}
+use Rattle.mc_base.specs.declared.channel.Kind.{Kind}
+use Rattle.mc_base.specs.declared.channel.Reason.TheVariants as reason
 use Rattle.mc_base.specs.declared.fate.Fate.{Fate}
-use Rattle.board_model.specs.Change.{at_peer, changed, frame_taken, held_after}
-use Rattle.board_model.specs.Deeds.{taken_change}
-use Rattle.board_model.specs.Parts.{Came, coming_from, held_if, named_so, names_before, names_ended}
-use Rattle.board_model.specs.Returns.{given_at_once, given_by_frame}
-use Rattle.board_model.specs.State.{DomainState, HeldFrame, Peer, held_of, holds_from, is_numbered}
-use Rattle.board_model.specs.TakenFrames.{names_of}
-use Rattle.report_replay.specs.Verdicts.{known_of}
+use Rattle.mc_base.specs.declared.fate.Fate.TheVariants as fate
+use Rattle.board_model.specs.Change.{at_peer, changed, frame_taken, held_after, held_as}
+use Rattle.board_model.specs.Parts.{Came, Coming, came_by, coming_so, held_by, held_if, names_before, names_ended, named_so}
+use Rattle.board_model.specs.Returns.{given_at_once}
+use Rattle.board_model.specs.State.{DomainState, Endpoint, HeldFrame, Part, Peer, endpoint_of, held_of, holds_from, is_numbered, peer_at}
+use Rattle.board_model.specs.TakenFrames.{accepting, connect_rows, first_row, is_busy, last_row, letter_rows, name_rows, names_of, rejecting, replies_to, reply_limit, row, row_of}
+use Rattle.report_replay.specs.Dealt.{AddsFor, Deals, shown_less}
+use Rattle.report_replay.specs.Ends.{came_in}
+use Rattle.report_replay.specs.Naming.{AddsBy, names_for}
 
--- the first is the one that is looked for, or not
-sought : (b : Bool) (p : Peer) (o : Option Peer) → names_of (cond b (Some (record p { shown = p.shown - 1; part = None })) o) ≡ names_of (cond b (Some p) o)
-sought true p o = refl
-sought false p o = refl
+-- ---- peers
 
-passed : (b : Bool) (p : Peer) (o r : Option Peer) → names_of o ≡ names_of r → names_of (cond b (Some p) o) ≡ names_of (cond b (Some p) r)
-passed true p o r same = refl
-passed false p o r same = same
+-- of the peer that is looked for, what does not hang on its part
+module _ {A : Type 0} (f : Option Peer → A) (n : ℕ) (part : Option Part) (keeps : (p : Peer) → f (Some (shown_less part p)) ≡ f (Some p)) where
+  -- the first is the one that is looked for, or not
+  sought : (b : Bool) (p : Peer) (o : Option Peer) → f (cond b (Some (shown_less part p)) o) ≡ f (cond b (Some p) o)
+  sought true p o = keeps p
+  sought false p o = refl
 
-names_same : (n m : ℕ) (ps : List Peer) → names_of (find (is_numbered m) (at_peer n (λ p. record p { shown = p.shown - 1; part = None }) ps)) ≡ names_of (find (is_numbered m) ps)
-names_same n m [] = refl
-names_same n m (p ∷ ps) = go (is_numbered n p) (names_same n m ps)
+  passed : (b : Bool) (p : Peer) (o r : Option Peer) → f o ≡ f r → f (cond b (Some p) o) ≡ f (cond b (Some p) r)
+  passed true p o r same = refl
+  passed false p o r same = same
+
+  pub peer-same : (m : ℕ) (ps : List Peer) → f (find (is_numbered m) (at_peer n (shown_less part) ps)) ≡ f (find (is_numbered m) ps)
+  peer-same m [] = refl
+  peer-same m (p ∷ ps) = go (is_numbered n p) (peer-same m ps)
+    where
+      go : (taken : Bool) → f (find (is_numbered m) (at_peer n (shown_less part) ps)) ≡ f (find (is_numbered m) ps)
+          → f (find (is_numbered m) (cond taken (shown_less part p ∷ ps) (p ∷ at_peer n (shown_less part) ps))) ≡ f (find (is_numbered m) (p ∷ ps))
+      go true same = sought (is_numbered m p) p (find (is_numbered m) ps)
+      go false same = passed (is_numbered m p) p (find (is_numbered m) (at_peer n (shown_less part) ps)) (find (is_numbered m) ps) same
+
+-- ---- rows
+
+module _ (s : DomainState) (n : ℕ) (part : Option Part) (names : List ℕ) where
+  abbrev t : DomainState
+  t = changed s (frame_taken n part names)
+
+  names_same : (m : ℕ) → names_of (peer_at t m) ≡ names_of (peer_at s m)
+  names_same m = peer-same names_of n part (λ p. refl) m s.peers
+
+  replies_same : (m : ℕ) → replies_to (peer_at t m) ≡ replies_to (peer_at s m)
+  replies_same m = peer-same replies_to n part (λ p. refl) m s.peers
+
+  module _ (peer : ℕ) (c : Came) (a b : ℕ) where
+    connects : (o : Option Endpoint) (number : ℕ) (kind : Kind) → first_row (connect_rows t peer a b o number kind) ≡ first_row (connect_rows s peer a b o number kind)
+    connects None number kind =
+        ap (λ x. first_row (row (nat_le reply_limit x) fate.RepliesFull [] ∷ last_row fate.Owed (rejecting peer a b number reason.NoEndpoint))) (replies_same peer)
+    connects (Some e) number kind =
+        ap (λ x. first_row (row (nat_le reply_limit x) fate.RepliesFull []
+        ∷ row (is_some e.channel) fate.Owed (rejecting peer a b number reason.Connected)
+        ∷ row (is_busy s e) fate.Owed (rejecting peer a b number reason.Busy)
+        ∷ last_row fate.Owed (accepting peer a b number kind))) (replies_same peer)
+
+    letters : (o : Option Endpoint) (l : PlainLetter) → first_row (letter_rows t peer c a b o l) ≡ first_row (letter_rows s peer c a b o l)
+    letters o (connect number kind) = connects o number kind
+    letters None (msg priority bytes) = refl
+    letters None (accept number) = refl
+    letters None (reject number why) = refl
+    letters None (recv_open number) = refl
+    letters None (send_open number) = refl
+    letters None (packet number bytes) = refl
+    letters None (scalar number bits value) = refl
+    letters None (send_close number) = refl
+    letters None (recv_close number) = refl
+    letters (Some e) (msg priority bytes) = refl
+    letters (Some e) (accept number) = refl
+    letters (Some e) (reject number why) = refl
+    letters (Some e) (recv_open number) = refl
+    letters (Some e) (send_open number) = refl
+    letters (Some e) (packet number bytes) = refl
+    letters (Some e) (scalar number bits value) = refl
+    letters (Some e) (send_close number) = refl
+    letters (Some e) (recv_close number) = refl
+
+  pub row-same : (peer : ℕ) (c : Came) (r : Reading) → row_of t peer c r ≡ row_of s peer c r
+  row-same peer c (is_faulty f) = refl
+  row-same peer c (announces text address there) = ap (λ known. first_row (name_rows peer known (endpoint_named text) address there)) (names_same peer)
+  row-same peer c (says a b l) = letters peer c a b (endpoint_of s b) l
+  row-same peer c (brings a b q) = refl
+
+-- ---- names that are added
+
+-- these for a peer, and then those
+pub adds-then : (peer : ℕ) (xs ys : List ℕ) (old mid new : List (List ℕ)) → AddsFor peer xs old mid → AddsFor peer ys mid new → AddsFor peer (xs ++ ys) old new
+adds-then peer xs ys old mid new one two = λ p small.
+    two p small
+    ∙ ap (λ ns. ns ++ cond (peer == p) ys []) (one p small)
+    ∙ append_assoc (names_for p old) (cond (peer == p) xs []) (cond (peer == p) ys [])
+    ∙ ap (λ ns. names_for p old ++ ns) (both (peer == p))
   where
-    go : (taken : Bool) → names_of (find (is_numbered m) (at_peer n (λ p. record p { shown = p.shown - 1; part = None }) ps)) ≡ names_of (find (is_numbered m) ps)
-        → names_of (find (is_numbered m) (cond taken (record p { shown = p.shown - 1; part = None } ∷ ps) (p ∷ at_peer n (λ p. record p { shown = p.shown - 1; part = None }) ps))) ≡ names_of (find (is_numbered m) (p ∷ ps))
-    go true same = sought (is_numbered m p) p (find (is_numbered m) ps)
-    go false same = passed (is_numbered m p) p (find (is_numbered m) (at_peer n (λ p. record p { shown = p.shown - 1; part = None }) ps)) (find (is_numbered m) ps) same
+    both : (b : Bool) → cond b xs [] ++ cond b ys [] ≡ cond b (xs ++ ys) []
+    both true = refl
+    both false = refl
 
--- the names that are known are the same after a frame was taken
-pub known-same : (s : DomainState) (n m : ℕ) → known_of (changed s (frame_taken n None [])) m ≡ known_of s m
-known-same s n m = names_same n m s.peers
-
--- of a frame after which no part is open
-pub taken-so : (n : ℕ) (c : Came) → c.part ≡ None → taken_change n c ≡ frame_taken n None []
-taken-so n c none = ap (λ o. frame_taken n o (held_if o c.names)) none
-
--- where no frame is held, none is held after it
-pub none-held : (t : DomainState) (n : ℕ) → [] ≡ t.held → record t { held = held_after (frame_taken n None []) t } ≡ t
-none-held t n none = ap (λ (hs : List HeldFrame). record t { held = hs }) (ap (λ (hs : List HeldFrame). filter (λ h. not (holds_from n h)) hs ++ []) (sym none) ∙ none)
-
-pub taken-none : (now r : DomainState) (n : ℕ) → [] ≡ now.held → r ≡ record now { peers = at_peer n (λ p. record p { shown = p.shown - 1; part = None }) now.peers } → r ≡ changed now (frame_taken n None [])
-taken-none now r n none is = is ∙ sym (none-held (record now { peers = at_peer n (λ p. record p { shown = p.shown - 1; part = None }) now.peers }) n none)
-
--- its own buffer alone is given back, where its word says so
-pub gives-own : (s : DomainState) (peer : ℕ) (name : Option ℕ) (frame : List ℕ) (word : Fate) → s.held ≡ [] → given_by_frame s peer name frame word ≡ given_at_once word (named_so name ∷ [])
-gives-own s peer name frame word none = go (coming_from s peer frame).joins (held_of s peer) (ap (λ (hs : List HeldFrame). map (λ h. h.name) (filter (holds_from peer) hs)) none)
+pub adds-none : (peer : ℕ) (old : List (List ℕ)) → AddsFor peer [] old old
+adds-none peer old = λ p small. sym (append-nil (names_for p old)) ∙ ap (λ ns. names_for p old ++ ns) (sym (none (peer == p)))
   where
-    alone : (joins : Bool) → names_ended joins [] ++ given_at_once word (names_before joins [] ++ named_so name ∷ []) ≡ given_at_once word (named_so name ∷ [])
-    alone true = refl
-    alone false = refl
+    none : (b : Bool) → cond {A = List ℕ} b [] [] ≡ []
+    none true = refl
+    none false = refl
 
-    go : (joins : Bool) (held : List ℕ) → held ≡ [] → names_ended joins held ++ given_at_once word (names_before joins held ++ named_so name ∷ []) ≡ given_at_once word (named_so name ∷ [])
-    go joins held is = ap (λ (hs : List ℕ). names_ended joins hs ++ given_at_once word (names_before joins hs ++ named_so name ∷ [])) is ∙ alone joins
+-- ---- what holds where a call succeeds
+
+pub on-always : {A E P : Type 0} (r : Result A E) → P → OnOk r P
+on-always (Ok a) p = p
+on-always (Err e) p = tt
+
+pub on-map : {A E P Q : Type 0} (r : Result A E) → (P → Q) → OnOk r P → OnOk r Q
+on-map (Ok a) f p = f p
+on-map (Err e) f p = tt

@@ -46,33 +46,34 @@ word_of_data kind c = if not (same_kind c.kind kind) || c.far_closed then fate.S
 
 -- ---- the rows of a letter that goes this way
 
--- one frame brought it
-abbrev pub came_over : Way → Came
-came_over w = record { names = w.name ∷ []; part = None }
+-- frames of these names brought it, and no part is open after it
+abbrev pub came_in : List ℕ → Came
+came_in names = record { names = names; part = None }
 
-abbrev pub letter_at : DomainState → Way → PlainLetter → List Row
-letter_at s w l = letter_rows s w.peer (came_over w) w.source w.destination (endpoint_of s w.destination) l
+abbrev pub letter_at : DomainState → Way → List ℕ → PlainLetter → List Row
+letter_at s w names l = letter_rows s w.peer (came_in names) w.source w.destination (endpoint_of s w.destination) l
 
 abbrev pub connect_at : DomainState → Way → ℕ → Kind → List Row
 connect_at s w number kind = connect_rows s w.peer w.source w.destination (endpoint_of s w.destination) number kind
 
--- of one that brings an item, and of one to an end, whatever letter it is
-abbrev pub item_by : Way → PlainLetter → Item
-item_by w l = item_of w.peer (came_over w) w.source l
+-- what it brings, as an item
+abbrev pub item_by : Way → List ℕ → PlainLetter → Item
+item_by w names l = item_of w.peer (came_in names) w.source l
 
-abbrev pub message_to : DomainState → Way → Option Endpoint → PlainLetter → List Row
-message_to s w None l = last_row fate.NoEndpoint []
-message_to s w (Some e) l = message_rows s w.destination e e.channel (item_by w l)
+-- of a message, and of a letter to an end, whatever letter it is, which bring this item
+abbrev pub message_to : DomainState → Way → Option Endpoint → Item → List Row
+message_to s w None i = last_row fate.NoEndpoint []
+message_to s w (Some e) i = message_rows s w.destination e e.channel i
 
-abbrev pub message_at : DomainState → Way → PlainLetter → List Row
-message_at s w l = message_to s w (endpoint_of s w.destination) l
+abbrev pub message_at : DomainState → Way → Item → List Row
+message_at s w i = message_to s w (endpoint_of s w.destination) i
 
-abbrev pub end_to : DomainState → Way → Option Endpoint → PlainLetter → List Row
-end_to s w None l = last_row fate.NoEndpoint []
-end_to s w (Some e) l = channel_rows s w.peer w.destination e e.channel (item_by w l) l
+abbrev pub end_to : DomainState → Way → Option Endpoint → Item → PlainLetter → List Row
+end_to s w None i l = last_row fate.NoEndpoint []
+end_to s w (Some e) i l = channel_rows s w.peer w.destination e e.channel i l
 
-abbrev pub end_at : DomainState → Way → PlainLetter → List Row
-end_at s w l = end_to s w (endpoint_of s w.destination) l
+abbrev pub end_at : DomainState → Way → Item → PlainLetter → List Row
+end_at s w i l = end_to s w (endpoint_of s w.destination) i l
 
 -- the row of an item that is kept at an endpoint: the oldest receive that waits there has it, or else the queue
 abbrev pub kept : DomainState → ℕ → Local → Item → Row

@@ -1,3 +1,5 @@
+pub mod Coming
+pub mod Dealt
 pub mod Ends
 pub mod Read
 pub mod Verdicts

@@ -17,6 +17,10 @@ ended_at local word r = if waits_at local r then done_with (has_ended word) r el
 abbrev pub greatest : ℕ
 greatest = 18446744073709551615
 
+-- the most bytes of an item that is held, by how a part says the bytes of its whole
+abbrev pub most_bytes : ℕ
+most_bytes = 65535
+
 -- a peer's number and the buffers of the lane to it
 abbrev pub neighbour_of : ℕ × ℕ → Neighbour
 neighbour_of p = neighbour p.0 p.1

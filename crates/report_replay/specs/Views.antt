@@ -2,11 +2,15 @@
 -- Source: docs/PROFILE.md, "A domain".
 use Rattle.std.specs.Prelude.{Option, None, Some}
 use Rattle.mc_base.specs.declared.channel.Reason.{Reason}
+use Rattle.mc_base.specs.Letter as letter
+use Rattle.mc_base.specs.Letter.{of_message, of_packet}
 use Rattle.board_model.specs.State as state
 use Rattle.board_model.specs.State.{connecting, connected, opened, closed, name_of, channel_of, message_at, packet_at, has_address, is_accepted, is_rejected, has_item, has_ended}
 use Rattle.report_replay.specs.declared.channel.Stage.{Stage}
 use Rattle.report_replay.specs.declared.channel.Stage.TheVariants as stage
 use Rattle.report_replay.specs.declared.channel.ChannelEnd.{ChannelEnd}
+use Rattle.report_replay.specs.declared.part.Carrier.{Carrier}
+use Rattle.report_replay.specs.declared.part.Carrier.TheVariants as carrier
 use Rattle.report_replay.specs.declared.peer.Announcement.{Announcement}
 use Rattle.report_replay.specs.declared.peer.Reply.{Reply}
 use Rattle.report_replay.specs.declared.request.Asked.{Asked}
@@ -22,6 +26,10 @@ stage_of stage.Closed = closed
 
 abbrev pub end_of : ChannelEnd → state.ChannelEnd
 end_of c = record { side = c.side; kind = c.kind; owner = c.owner; number = c.number; peer = c.peer; peer_address = c.peer_address; stage = stage_of c.stage; far_open = c.far_open; far_closed = c.far_closed }
+
+abbrev pub carrier_of : Carrier → letter.Carrier
+carrier_of (carrier.Message priority) = of_message priority
+carrier_of (carrier.Packet channel) = of_packet channel
 
 abbrev pub announcement_of : Announcement → state.Announcement
 announcement_of a = record { local = a.local; address = a.address; create = a.create }

@@ -1,13 +1,14 @@
 //! The words of faults.
 
-ghost use Rattle.std.specs.Prelude.{◌≡◌};
-ghost use Rattle.board_model.specs.Dealing.{fault_word as word_of_fault};
+ghost use Rattle.std.specs.Prelude.{◌≡◌, false};
+ghost use Rattle.board_model.specs.Dealing.{fault_word as word_of_fault, keeps_buffer};
 
 use mc_base::{Fate, Fault, FrameFault, LetterFault, NsFault};
 
 /// The word of a frame with this fault.
 pub(crate) fn fault_word(fault: Fault) -> Fate
-    ensures { result ≡ word_of_fault fault }
+    ensures word { result ≡ word_of_fault fault }
+    ensures drops { keeps_buffer result ≡ false }
 {
     match fault {
         Fault::Frame(FrameFault::FrameShort) => Fate::FrameShort,

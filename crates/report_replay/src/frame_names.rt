@@ -73,7 +73,18 @@ impl FrameNames {
         ensures { OnOk result (AddsItems items.now self.old self.new) }
     {
         for item in items {
+            self.add_all(item.peer, &item.earlier)?;
             self.add(item.peer, item.name)?;
+        }
+        Ok(())
+    }
+
+    /// Adds the names of frames from a peer, in their order.
+    pub(crate) fn add_all(&mut self, peer: u8, names: &[u32]) -> Result<(), NoMemory>
+        ensures { OnOk result (AddsBy (λ p. if peer == p then names.now else []) self.old self.new) }
+    {
+        for name in names {
+            self.add(peer, *name)?;
         }
         Ok(())
     }

@@ -1,20 +1,42 @@
-//! The buffers of the lane from a peer that are held: in queues, and lent.
+//! The buffers of the lane from a peer that are held: in queues, in its open part, and lent.
 
-ghost use Rattle.std.specs.Prelude.{◌≡◌, ◌+◌, length, map, min};
+ghost use Rattle.std.specs.Prelude.{◌≡◌, ◌+◌, ◌∷◌, ◌++◌, [], IfOk, OnOk, Some, filter, length, map, min, not};
 ghost use Rattle.std.specs.List.{flat_map};
-ghost use Rattle.board_model.specs.State.{frames_from, item_in, queued_from, lent_from, held_from};
+ghost use Rattle.board_model.specs.Change.{at_peer, held_as};
+ghost use Rattle.board_model.specs.State.{frames_from, holds_from, item_in, queued_from, lent_from, held_from, held_of};
+ghost use Rattle.report_replay.specs.Dealt.{with_part};
 ghost use Rattle.report_replay.specs.Replayed.{greatest};
 
 use crate::endpoint::Endpoint;
+use crate::part::Part;
+use crate::peer::Peer;
 use crate::request::{LentPacket, Request};
 use crate::state::State;
+use mc_base::NoMemory;
+use std::alloc::Global;
+use std::marker::Model;
+
+/// A frame that is held in the open part of a peer, by its name.
+#[derive(Debug, Drop)]
+pub struct HeldFrame {
+    pub(crate) peer: u8,
+    pub(crate) name: u32,
+}
+
+impl Model for HeldFrame {
+    ghost use Rattle.board_model.specs.State.{HeldFrame as Plain};
+
+    ghost Value = { Plain };
+
+    ghost view = { λ h. record { peer = h.peer; name = h.name } };
+}
 
 impl State {
-    /// How many buffers of the lane from a peer stand in queues, or the greatest `u64` where there are more.
+    /// How many buffers of the lane from a peer stand in queues and in its open part, or the greatest `u64` where there are more.
     pub fn queued_from(&self, peer: u8) -> u64
         ensures { result ≡ min greatest (queued_from peer self.now) }
     {
-        queued_in(&self.endpoints, peer)
+        queued_in(&self.endpoints, peer).saturating_add(frames_in(&self.held, peer))
     }
 
     /// How many buffers of the lane from a peer are lent, or the greatest `u64` where there are more.
@@ -30,6 +52,92 @@ impl State {
     {
         self.queued_from(peer).saturating_add(self.lent_from(peer))
     }
+
+    /// Opens a part of a peer, which frames of these names brought: a replay may begin with a state in which parts are open.
+    ///
+    /// # Errors
+    ///
+    /// `NoMemory` where a name cannot be stored.
+    pub fn open_part(&mut self, peer: u8, part: Part, names: &[u32]) -> Result<(), NoMemory>
+        ensures { OnOk result (self.new ≡ record self.old { peers = at_peer peer (with_part (Some part)) self.old.peers; held = self.old.held ++ map (held_as peer) names.now }) }
+    {
+        self.set_part(peer, part);
+        push_held(&mut self.held, peer, names)
+    }
+
+    /// Sets the open part of a peer.
+    fn set_part(&mut self, peer: u8, part: Part)
+        ensures { self.new ≡ record self.old { peers = at_peer peer (with_part (Some part)) self.old.peers } }
+    {
+        if let Some(place) = self.place_of_peer(peer) {
+            self.peers[place].set_part(part);
+        }
+    }
+
+    /// Takes the frames of a peer's open part out of those that are held, and returns their names.
+    pub(crate) fn take_held(&mut self, alloc: Global, peer: u8) -> Result<Vec<u32>, NoMemory>
+        ensures names { IfOk result (λ names. names.items ≡ held_of self.old peer) }
+        ensures state { OnOk result (self.new ≡ record self.old { held = filter (λ h. not (holds_from peer h)) self.old.held }) }
+    {
+        let names = names_held(alloc, &self.held, peer)?;
+        self.held.retain(|h| h.peer != peer);
+        Ok(names)
+    }
+
+    /// Holds frames from a peer in its open part: these, and the last.
+    pub(crate) fn hold(&mut self, peer: u8, earlier: &[u32], last: u32) -> Result<(), NoMemory>
+        ensures { OnOk result (self.new ≡ record self.old { held = self.old.held ++ map (held_as peer) (earlier.now ++ last ∷ []) }) }
+    {
+        push_held(&mut self.held, peer, earlier)?;
+        push_held(&mut self.held, peer, &[last])
+    }
+}
+
+impl Peer {
+    /// Sets its open part.
+    fn set_part(&mut self, part: Part)
+        ensures { self.new ≡ with_part (Some part) self.old }
+    {
+        self.part = Some(part);
+    }
+}
+
+/// The names of the frames from a peer among these.
+fn names_held(alloc: Global, held: &[HeldFrame], peer: u8) -> Result<Vec<u32>, NoMemory>
+    ensures { IfOk result (λ names. names.items ≡ map (λ h. h.name) (filter (holds_from peer) held.now)) }
+{
+    let mut names = Vec::new(alloc);
+    for frame in held {
+        if frame.peer == peer && names.push(frame.name).is_err() {
+            return Err(NoMemory);
+        }
+    }
+    Ok(names)
+}
+
+/// Appends frames of these names from a peer.
+fn push_held(held: &mut Vec<HeldFrame>, peer: u8, names: &[u32]) -> Result<(), NoMemory>
+    ensures { OnOk result (held.new.items ≡ held.old.items ++ map (held_as peer) names.now) }
+{
+    for name in names {
+        if held.push(HeldFrame { peer, name: *name }).is_err() {
+            return Err(NoMemory);
+        }
+    }
+    Ok(())
+}
+
+/// How many of these frames are from a peer.
+fn frames_in(held: &[HeldFrame], peer: u8) -> u64
+    ensures { result ≡ min greatest (length (map (λ h. h.name) (filter (holds_from peer) held.now))) }
+{
+    let mut count: u64 = 0;
+    for frame in held {
+        if frame.peer == peer {
+            count = count.saturating_add(1);
+        }
+    }
+    count
 }
 
 /// How many frames from a peer brought the items in the queues of these endpoints.

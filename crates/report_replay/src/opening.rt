@@ -34,6 +34,7 @@ impl State {
             peers,
             requests: Vec::new(alloc),
             lent: Vec::new(alloc),
+            held: Vec::new(alloc),
             endpoints_given: 0,
             channels_given: 0,
             requests_given: 0,
@@ -68,5 +69,6 @@ fn new_peer(alloc: Global, number: u8, size: u32) -> Result<Peer, NoMemory>
         announcements: Vec::new(alloc),
         replies: Vec::new(alloc),
         known: Names::new(alloc)?,
+        part: None,
     })
 }

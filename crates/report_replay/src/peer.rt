@@ -5,6 +5,7 @@ ghost use Rattle.board_model.specs.Change.{also_owed, first_put};
 ghost use Rattle.report_replay.specs.Views.{announcement_of};
 
 use crate::names::Names;
+use crate::part::Part;
 use mc_base::{Local, NoMemory, Reason};
 use std::marker::Model;
 
@@ -25,7 +26,7 @@ pub struct Reply {
     pub(crate) reason: Option<Reason>,
 }
 
-/// A peer, the domain itself among them: its lanes, what is owed to it, and the names that are known of it.
+/// A peer, the domain itself among them: its lanes, what is owed to it, the names that are known of it, and its open part, if there is one.
 #[derive(Debug, Drop)]
 pub struct Peer {
     pub(crate) number: u8,
@@ -35,16 +36,17 @@ pub struct Peer {
     pub(crate) announcements: Vec<Announcement>,
     pub(crate) replies: Vec<Reply>,
     pub(crate) known: Names,
+    pub(crate) part: Option<Part>,
 }
 
 impl Model for Peer {
-    ghost use Rattle.std.specs.Prelude.{map, None};
+    ghost use Rattle.std.specs.Prelude.{map};
     ghost use Rattle.board_model.specs.State.{Peer as Plain};
     ghost use Rattle.report_replay.specs.Views.{announcement_of, reply_of};
 
     ghost Value = { Plain };
 
-    ghost view = { λ p. record { number = p.number; size = p.size; free = p.free; shown = p.shown; announcements = map announcement_of p.announcements.items; replies = map reply_of p.replies.items; known = p.known; part = None } };
+    ghost view = { λ p. record { number = p.number; size = p.size; free = p.free; shown = p.shown; announcements = map announcement_of p.announcements.items; replies = map reply_of p.replies.items; known = p.known; part = p.part } };
 }
 
 impl Peer {

@@ -4,6 +4,7 @@ ghost use Rattle.std.specs.Prelude.{◌≡◌, option_map};
 ghost use Rattle.board_model.specs.State.{endpoint_of, place_at, place_of_address, place_of_waiting, place_of_peer};
 
 use crate::endpoint::Endpoint;
+use crate::held::HeldFrame;
 use crate::peer::Peer;
 use crate::request::{LentPacket, Request};
 use mc_base::Local;
@@ -19,6 +20,7 @@ pub struct State {
     pub(crate) peers: Vec<Peer>,
     pub(crate) requests: Vec<Request>,
     pub(crate) lent: Vec<LentPacket>,
+    pub(crate) held: Vec<HeldFrame>,
     pub(crate) endpoints_given: u32,
     pub(crate) channels_given: u32,
     pub(crate) requests_given: u64,
@@ -26,12 +28,11 @@ pub struct State {
 }
 
 impl Model for State {
-    ghost use Rattle.std.specs.Prelude.{[]};
     ghost use Rattle.board_model.specs.State.{DomainState};
 
     ghost Value = { DomainState };
 
-    ghost view = { λ s. record { number = s.number; nodes = s.nodes; endpoints = s.endpoints.items; ended = s.ended.items; peers = s.peers.items; requests = s.requests.items; lent = s.lent.items; held = []; endpoints_given = s.endpoints_given; channels_given = s.channels_given; requests_given = s.requests_given; packets_lent = s.packets_lent } };
+    ghost view = { λ s. record { number = s.number; nodes = s.nodes; endpoints = s.endpoints.items; ended = s.ended.items; peers = s.peers.items; requests = s.requests.items; lent = s.lent.items; held = s.held.items; endpoints_given = s.endpoints_given; channels_given = s.channels_given; requests_given = s.requests_given; packets_lent = s.packets_lent } };
 }
 
 impl State {

@@ -1,78 +1,83 @@
-//! A frame that is taken: judged by the state before, and then done.
+//! A frame that is taken: read with the open part of its peer, and then dealt with by what it says.
 
-ghost use Rattle.std.specs.Prelude.{◌≡◌, ◌∷◌, [], IfOk, OnOk};
-ghost use Rattle.board_model.specs.Change.{changed_all};
+ghost use Rattle.std.specs.Prelude.{◌≡◌, ◌∷◌, ◌++◌, [], IfOk, OnOk, filter, length, not, unwrap_or};
+ghost use Rattle.mc_base.specs.Letter.{carried};
+ghost use Rattle.mc_base.specs.Reading.{says};
+ghost use Rattle.name_service.specs.Said.{reading_of};
 ghost use Rattle.board_model.specs.Deeds.{after_deed, takes};
-ghost use Rattle.board_model.specs.Parts.{named_so};
-ghost use Rattle.board_model.specs.Returns.{given_at_once, given_by_frame};
+ghost use Rattle.board_model.specs.Parts.{names_before, names_ended};
+ghost use Rattle.board_model.specs.Returns.{given_by_frame};
+ghost use Rattle.board_model.specs.State.{held_of, holds_from};
 ghost use Rattle.board_model.specs.TakenFrames.{row_from};
-ghost use Rattle.report_replay.specs.Verdicts.{HasRoom, changes_of, known_of};
+ghost use Rattle.report_replay.specs.Dealt.{AddsFor};
 
+use crate::frame_names::FrameNames;
+use crate::part::Says;
 use crate::state::State;
-use crate::verdict::Verdict;
-use mc_base::{Fate, NoMemory, Refusal};
+use crate::way::Way;
+use mc_base::{Fate, NoMemory};
+use name_service::read_frame;
 use std::alloc::Global;
 
 impl State {
-    /// Takes a frame that was shown from a peer, does what the definitions say, and returns its word. `name` is what the frame
-    /// is named by, if a message, packet or scalar stays. No other frame's buffer is given back.
+    /// Takes a frame that was shown from a peer, does what the definitions say, and returns its word. `name` is what the frame is named by, if
+    /// it stays in an item or in the peer's open part. The names of the frames whose buffers are given back are added to `given`: first those
+    /// of an open part that ends unfinished, and then those that brought what the frame says, where its word lets go of them.
     ///
     /// # Errors
     ///
-    /// `NoMemory` where an item or a reply cannot be stored. Nothing is said of the state after that.
+    /// `NoMemory` where a part, an item, a reply or a name cannot be stored. Nothing is said of the state after that.
     pub fn take(
         &mut self,
         alloc: Global,
         peer: u8,
         name: Option<u32>,
         frame: &[u8],
+        given: &mut FrameNames,
     ) -> Result<Fate, NoMemory>
         ensures word { IfOk result (λ word. word ≡ (row_from self.old peer name frame.now).word) }
         ensures state { IfOk result (λ word. self.new ≡ after_deed self.old (takes peer name frame.now word)) }
-        ensures gives { IfOk result (λ word. given_by_frame self.old peer name frame.now word ≡ given_at_once word (named_so name ∷ [])) }
+        ensures given { IfOk result (λ word. AddsFor peer (given_by_frame self.old peer name frame.now word) given.old given.new) }
     {
-        let verdict = self.judge(alloc, peer, name, frame)?;
-        let word = verdict.word();
-        self.take_shown(peer);
-        self.act(peer, verdict)?;
-        Ok(word)
-    }
-
-    /// Does what is to be done by a frame that was taken from a peer.
-    fn act(&mut self, peer: u8, verdict: Verdict) -> Result<(), NoMemory>
-        requires { HasRoom (known_of self.old peer) verdict }
-        ensures { OnOk result (self.new ≡ changed_all self.old (changes_of peer (known_of self.old peer) verdict)) }
-    {
-        match verdict {
-            Verdict::Nothing(_word) => {}
-            Verdict::Learn { name, address } => {
-                self.learn(peer, name, address);
-                self.find_name(name, address);
+        let name = name.unwrap_or(0);
+        let coming = self.read_on(peer, read_frame(frame))?;
+        let earlier = self.end_part(alloc, peer, coming.joins, given)?;
+        match coming.says {
+            Says::Held => {
+                self.hold(peer, &earlier, name)?;
+                Ok(Fate::Part)
             }
-            Verdict::Forget { name } => self.forget(peer, name),
-            Verdict::Owe { reply } => self.owe_reply(peer, reply)?,
-            Verdict::Accept { at, end, reply } => {
-                self.set_channel(at, Some(end));
-                self.owe_reply(peer, reply)?;
-            }
-            Verdict::Queue { at, item } => self.queue_item(at, item)?,
-            Verdict::Hand { at, item } => self.hand_item(at, item),
-            Verdict::Lose { item, .. } => drop(item),
-            Verdict::Set { at, left } => self.set_channel(at, left),
-            Verdict::Settle {
-                at,
-                left,
-                number,
-                rejected,
-            } => {
-                self.set_channel(at, left);
-                self.settle_connects(number, rejected);
-            }
-            Verdict::EndReceives { at, left } => {
-                self.end_waiting(at, Refusal::ChanClosed);
-                self.set_channel(at, left);
+            Says::Alone(said) => self.deal(alloc, peer, name, &said, given),
+            Says::Whole(part) => {
+                let way = Way {
+                    peer,
+                    name,
+                    source: part.source,
+                    destination: part.destination,
+                };
+                self.deal_whole(way, part, earlier, given)
             }
         }
-        Ok(())
+    }
+
+    /// Takes the frames of a peer's open part out of those that are held, and returns their names where the next frame joins them. Where it
+    /// does not, their buffers are given back, the oldest first.
+    fn end_part(
+        &mut self,
+        alloc: Global,
+        peer: u8,
+        joins: bool,
+        given: &mut FrameNames,
+    ) -> Result<Vec<u32>, NoMemory>
+        ensures names { IfOk result (λ names. names.items ≡ names_before joins (held_of self.old peer)) }
+        ensures state { OnOk result (self.new ≡ record self.old { held = filter (λ h. not (holds_from peer h)) self.old.held }) }
+        ensures given { OnOk result (AddsFor peer (names_ended joins (held_of self.old peer)) given.old given.new) }
+    {
+        let held = self.take_held(alloc, peer)?;
+        if joins {
+            return Ok(held);
+        }
+        given.add_all(peer, &held)?;
+        Ok(Vec::new(alloc))
     }
 }

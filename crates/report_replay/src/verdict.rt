@@ -2,13 +2,22 @@ ghost use Rattle.std.specs.Prelude.{◌≡◌};
 ghost use Rattle.report_replay.specs.Verdicts.{word_of};
 
 use crate::channel::ChannelEnd;
-use crate::item::Item;
 use crate::peer::Reply;
 use mc_base::{EndName, Fate, Reason};
 
 /// What is to be done by a frame that is taken from a peer.
-#[derive(Drop)]
+#[derive(Clone, Copy)]
 pub(crate) enum Verdict {
+    /// The item that it brings is kept at an endpoint: the oldest receive that waits there is complete with it where `hands`, and else it is
+    /// last in the queue.
+    Keep { at: u32, hands: bool },
+    /// Its buffer is given back, and this is done.
+    Act(Action),
+}
+
+/// What is to be done by a frame of which nothing is kept.
+#[derive(Clone, Copy)]
+pub(crate) enum Action {
     /// Nothing. The frame has this word.
     Nothing(Fate),
     /// The peer's name has this address from now on, and lookups of it are complete.
@@ -30,20 +39,9 @@ pub(crate) enum Verdict {
         end: ChannelEnd,
         reply: Reply,
     },
-    /// An item is last in the queue of an endpoint.
-    Queue {
-        at: u32,
-        item: Item,
-    },
-    /// The oldest receive that waits at an endpoint is complete with an item.
-    Hand {
-        at: u32,
-        item: Item,
-    },
     /// An item is lost, since the end of the channel is closed.
     Lose {
         at: u32,
-        item: Item,
     },
     /// An endpoint has this channel from now on, or none.
     Set {
@@ -64,21 +62,17 @@ pub(crate) enum Verdict {
     },
 }
 
-impl Verdict {
+impl Action {
     /// The word of the frame.
     pub(crate) fn word(&self) -> Fate
         ensures { result ≡ word_of self.now }
     {
-        match self {
-            Verdict::Nothing(word) => *word,
-            Verdict::Learn { .. } | Verdict::Forget { .. } => Fate::Acted,
-            Verdict::Owe { .. } | Verdict::Accept { .. } => Fate::Owed,
-            Verdict::Queue { .. } => Fate::Queued,
-            Verdict::Hand { .. } => Fate::Handed,
-            Verdict::Lose { .. } => Fate::Closed,
-            Verdict::Set { .. } | Verdict::Settle { .. } | Verdict::EndReceives { .. } => {
-                Fate::Acted
-            }
+        match *self {
+            Action::Nothing(word) => word,
+            Action::Learn { .. } | Action::Forget { .. } => Fate::Acted,
+            Action::Owe { .. } | Action::Accept { .. } => Fate::Owed,
+            Action::Lose { .. } => Fate::Closed,
+            Action::Set { .. } | Action::Settle { .. } | Action::EndReceives { .. } => Fate::Acted,
         }
     }
 }

@@ -1,20 +1,22 @@
-ghost use Rattle.std.specs.Prelude.{◌≡◌, ◌≤◌, IfOk, None, Some, length};
+ghost use Rattle.std.specs.Prelude.{◌≡◌, ◌≤◌, ◌++◌, ◌∷◌, [], IfOk, None, Some, length};
 ghost use Rattle.byteorder.specs.Endian.{little_bytes};
-ghost use Rattle.mc_base.specs.Letter.{bytes_of_bits, plain_letter};
+ghost use Rattle.mc_base.specs.Letter.{bytes_of_bits, carried, plain_letter};
 ghost use Rattle.board_model.specs.ChannelEnds.{accepted_end};
 ghost use Rattle.board_model.specs.TakenFrames.{channel_item, message_item, reply_to};
-ghost use Rattle.report_replay.specs.Ends.{came_over, item_by};
+ghost use Rattle.report_replay.specs.Replayed.{most_bytes};
+ghost use Rattle.report_replay.specs.Ends.{came_in, item_by};
 ghost use Rattle.report_replay.specs.ShortLetters.{IsShort};
 ghost use Rattle.report_replay.specs.Views.{end_of, reply_of};
 
 use crate::channel::{ChannelEnd, Stage};
 use crate::item::Item;
+use crate::part::{Carrier, Part};
 use crate::peer::Reply;
 use board_model::Seq;
 use mc_base::{Bits, Kind, Letter, NoMemory, Reason, Side};
 use std::alloc::Global;
 
-/// Where a letter comes from and where it goes, and what its frame is named by.
+/// Where a letter comes from and where it goes, and what its last frame is named by.
 #[derive(Clone, Copy)]
 pub(crate) struct Way {
     pub(crate) peer: u8,
@@ -53,40 +55,58 @@ impl Way {
         }
     }
 
-    /// What a letter brings, as an item.
+    /// What the letter of a single frame brings, as an item.
     pub(crate) fn item(&self, alloc: Global, letter: &Letter<'_>) -> Result<Item, NoMemory>
         requires { IsShort (plain_letter letter.now) }
-        ensures { IfOk result (λ i. i ≡ item_by self.now (plain_letter letter.now)) }
+        ensures { IfOk result (λ i. i ≡ item_by self.now (self.now.name ∷ []) (plain_letter letter.now)) }
     {
+        let earlier = Vec::new(alloc);
         match *letter {
             Letter::Msg { priority, bytes }
             | Letter::MsgPart {
                 priority,
                 bytes,
                 ..
-            } => { Ok(self.message(priority.number(), copied(alloc, bytes)?)) }
+            } => { Ok(self.message(priority.number(), copied(alloc, bytes)?, earlier)) }
             Letter::Packet { channel, bytes } | Letter::PacketPart { channel, bytes, .. } => {
-                Ok(self.data(channel, copied(alloc, bytes)?))
+                Ok(self.data(channel, copied(alloc, bytes)?, earlier))
             }
             Letter::Scalar {
                 channel,
                 bits,
                 value,
-            } => Ok(self.data(channel, scalar_bytes(alloc, bits, value)?)),
+            } => Ok(self.data(channel, scalar_bytes(alloc, bits, value)?, earlier)),
             Letter::Connect { .. }
             | Letter::Accept { .. }
             | Letter::Reject { .. }
             | Letter::RecvOpen { .. }
             | Letter::SendOpen { .. }
             | Letter::SendClose { .. }
-            | Letter::RecvClose { .. } => Ok(self.message(0, Seq::new(Vec::new(alloc)))),
+            | Letter::RecvClose { .. } => Ok(self.message(0, Seq::new(Vec::new(alloc)), earlier)),
+        }
+    }
+
+    /// A message or packet that is whole, as an item. It keeps the bytes, and the names of the frames before the last.
+    pub(crate) fn whole_item(&self, part: Part, earlier: Vec<u32>) -> Item
+        requires { length part.content ≤ most_bytes }
+        ensures { result ≡ item_by self.now (earlier.items ++ self.now.name ∷ []) (carried part.carrier part.content) }
+    {
+        let Part {
+            carrier,
+            content,
+            ..
+        } = part;
+        let content = Seq::new(content);
+        match carrier {
+            Carrier::Message(priority) => self.message(priority.number(), content, earlier),
+            Carrier::Packet(channel) => self.data(channel, content, earlier),
         }
     }
 
     /// A message as an item.
-    fn message(&self, priority: u8, content: Seq<u8>) -> Item
-        requires { length content ≤ 488 }
-        ensures { result ≡ message_item self.now.peer (came_over self.now) self.now.source priority content }
+    fn message(&self, priority: u8, content: Seq<u8>, earlier: Vec<u32>) -> Item
+        requires { length content ≤ most_bytes }
+        ensures { result ≡ message_item self.now.peer (came_in (earlier.items ++ self.now.name ∷ [])) self.now.source priority content }
     {
         Item {
             peer: self.peer,
@@ -94,14 +114,15 @@ impl Way {
             priority,
             channel: None,
             content,
+            earlier,
             name: self.name,
         }
     }
 
     /// A packet or a scalar of a channel as an item.
-    fn data(&self, channel: u32, content: Seq<u8>) -> Item
-        requires { length content ≤ 488 }
-        ensures { result ≡ channel_item self.now.peer (came_over self.now) self.now.source channel content }
+    fn data(&self, channel: u32, content: Seq<u8>, earlier: Vec<u32>) -> Item
+        requires { length content ≤ most_bytes }
+        ensures { result ≡ channel_item self.now.peer (came_in (earlier.items ++ self.now.name ∷ [])) self.now.source channel content }
     {
         Item {
             peer: self.peer,
@@ -109,6 +130,7 @@ impl Way {
             priority: 0,
             channel: Some(channel),
             content,
+            earlier,
             name: self.name,
         }
     }

@@ -1,16 +1,22 @@
 //! Changes of the peers: their lanes, what is owed to them, and the names that are known of them.
 
-ghost use Rattle.std.specs.Prelude.{◌≡◌, ◌<◌, ◌+◌, ◌^◌, [], None, false, filter, map, OnOk};
+ghost use Rattle.std.specs.Prelude.{◌≡◌, ◌<◌, ◌+◌, ◌^◌, false, filter, map, IfOk, OnOk};
 ghost use Rattle.mc_base.specs.NameMap.{learned, forgotten};
 ghost use Rattle.board_model.specs.State.{free_to, peer_at, is_owed_end};
 ghost use Rattle.board_model.specs.TakenFrames.{names_of};
-ghost use Rattle.board_model.specs.Change.{changed, also_owed, end_announced, reply_owed, owed_put, buffers_back, frames_shown, frame_taken, names_known, buffers_used};
+ghost use Rattle.board_model.specs.Change.{changed, also_owed, end_announced, reply_owed, owed_put, buffers_back, frames_shown, at_peer, names_known, buffers_used};
+ghost use Rattle.name_service.specs.Said.{reading_of};
+ghost use Rattle.report_replay.specs.Coming.{SaysSo};
+ghost use Rattle.report_replay.specs.Dealt.{shown_less};
+ghost use Rattle.report_replay.specs.Read.{coming_read};
 ghost use Rattle.report_replay.specs.Replayed.{lacks_room};
 ghost use Rattle.report_replay.specs.Views.{announcement_of, reply_of};
 
+use crate::part::{Coming, read_with};
 use crate::peer::{Announcement, Peer, Reply};
 use crate::state::State;
 use mc_base::{EndName, NoMemory};
+use name_service::Said;
 
 impl State {
     /// Owes an announcement to each linked domain. Where it is the last that told of an end, the record of that is given up.
@@ -64,18 +70,19 @@ impl State {
         }
     }
 
-    /// One of the shown frames of a peer is taken, and no part is open after it.
-    pub(crate) fn take_shown(&mut self, peer: u8)
-        ensures state { self.new ≡ changed self.old (frame_taken peer None []) }
-        ensures held { self.old.held ≡ [] }
+    /// One of the shown frames of a peer is taken, which says this by itself: it is read with the open part of the peer, which is another
+    /// after it.
+    pub(crate) fn read_on<'a>(&mut self, peer: u8, said: Said<'a>) -> Result<Coming<'a>, NoMemory>
+        ensures state { OnOk result (self.new ≡ record self.old { peers = at_peer peer (shown_less (coming_read self.old peer (reading_of said.entry)).part) self.old.peers }) }
+        ensures joins { IfOk result (λ c. c.joins ≡ (coming_read self.old peer (reading_of said.entry)).joins) }
+        ensures says { IfOk result (λ c. SaysSo (reading_of said.entry) c.says (coming_read self.old peer (reading_of said.entry))) }
     {
-        let place = self.place_of_peer(peer);
-        let peers = &mut self.peers;
-        let Some(place) = place else {
-            return;
+        let Some(place) = self.place_of_peer(peer) else {
+            return read_with(&mut None, said);
         };
-        let peer = &mut peers[place];
+        let peer = &mut self.peers[place];
         peer.shown = peer.shown.saturating_sub(1);
+        read_with(&mut peer.part, said)
     }
 
     /// Learns the address of a name of a peer. The name is known, or fewer than 64 others are.

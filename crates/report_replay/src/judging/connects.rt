@@ -1,25 +1,26 @@
 //! The verdict on a Connect.
 
 ghost use Rattle.std.specs.Prelude.{◌≡◌};
+ghost use Rattle.board_model.specs.State.{Item};
 ghost use Rattle.board_model.specs.TakenFrames.{is_busy as busy_at};
 ghost use Rattle.report_replay.specs.Ends.{connect_at};
-ghost use Rattle.report_replay.specs.Verdicts.{ByRows};
+ghost use Rattle.report_replay.specs.Verdicts.{ActsByRows};
 
 use crate::endpoint::Endpoint;
 use crate::state::State;
-use crate::verdict::Verdict;
+use crate::verdict::Action;
 use crate::way::Way;
 use mc_base::{Fate, Kind, MAX_OWED_REPLIES, Reason};
 
 impl State {
-    /// The verdict on a Connect on the channel of this number.
-    pub(crate) fn judge_connect(&self, way: Way, number: u32, kind: Kind) -> Verdict
-        ensures { ByRows self.now way (connect_at self.now way number kind) result }
+    /// What is to be done by a Connect on the channel of this number.
+    pub(crate) fn judge_connect(&self, way: Way, number: u32, kind: Kind) -> Action
+        ensures { (item : Item) → ActsByRows self.now way item (connect_at self.now way number kind) result }
     {
         if self.replies_owed(way.peer) >= MAX_OWED_REPLIES {
-            return Verdict::Nothing(Fate::RepliesFull);
+            return Action::Nothing(Fate::RepliesFull);
         }
-        let reply = |reason| Verdict::Owe {
+        let reply = |reason| Action::Owe {
             reply: way.reply(number, Some(reason)),
         };
         let Some(endpoint) = self.endpoint_of(way.destination) else {
@@ -31,7 +32,7 @@ impl State {
         if self.is_busy(endpoint) {
             return reply(Reason::Busy);
         }
-        Verdict::Accept {
+        Action::Accept {
             at: way.destination,
             end: way.accepted(number, kind),
             reply: way.reply(number, None),
