@@ -11,6 +11,7 @@ mod order;
 mod own_order;
 mod schedule;
 
+pub use causes::{Cause, Lane, gained, lost};
 pub use event::{Event, What};
 pub use fault::OrderFault;
 pub use order::order_events;

@@ -1,1 +1,4 @@
 pub mod Escapes
+pub mod Pieces
+pub mod Markup
+pub mod Objects

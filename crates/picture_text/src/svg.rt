@@ -1,150 +1,232 @@
-//! The pieces of an SVG.
+//! The elements of a picture in SVG.
+
+ghost use Rattle.std.specs.Prelude.{◌≡◌, ℕ, option_to_list};
+ghost use Rattle.std.specs.List.{flat_map};
+ghost use Rattle.outer_io.specs.Puts.{Puts};
+ghost use Rattle.picture_text.specs.Markup.{PutsElements, attribute, element, head, key_name, line_mark, look_name, markup, page_end, tag_name};
 
 use crate::escape::put_xml;
 use outer_io::{Sink, Writer};
 
-/// Where a text stands beside its place.
+/// What an element is.
 #[derive(Clone, Copy)]
-pub enum Anchor {
-    Start,
-    End,
+pub enum Tag {
+    Style,
+    Rect,
+    Line,
+    Circle,
+    Text,
 }
 
-/// How a text looks.
+/// How an element looks. Each look is a class of the picture's style sheet.
 #[derive(Clone, Copy)]
-pub struct Style {
-    pub colour: &'static [u8],
-    pub size: u32,
-    pub bold: bool,
-    pub anchor: Anchor,
+pub enum Look {
+    Plain,
+    Page,
+    Title,
+    Note,
+    Small,
+    Right,
+    RightNote,
+    RightAlarm,
+    Box,
+    Life,
+    Frame,
+    Data,
+    DataLost,
+    DataWords,
+    Control,
+    ControlLost,
+    ControlWords,
+    Name,
+    NameLost,
+    NameWords,
+    Fault,
+    FaultLost,
+    Alarm,
+    Done,
+    Refused,
+    Again,
+    Wait,
+    WaitEnded,
+    WaitWords,
+    Free,
+    OnWay,
+    Held,
+    Returned,
 }
 
-/// A place in a picture.
+/// The name of an attribute that is a number.
 #[derive(Clone, Copy)]
-pub struct Spot {
-    pub x: u32,
-    pub y: u32,
+pub enum Key {
+    X,
+    Y,
+    Width,
+    Height,
+    X1,
+    Y1,
+    X2,
+    Y2,
+    Cx,
+    Cy,
+    Radius,
 }
 
-/// A rectangle.
+/// An attribute that is a number.
 #[derive(Clone, Copy)]
-pub struct Area {
-    pub x: u32,
-    pub y: u32,
-    pub width: u32,
-    pub height: u32,
+pub struct Number {
+    pub key: Key,
+    pub value: u32,
 }
 
-/// A style of this colour and size, at the place where a text begins.
-pub fn plain_style(colour: &'static [u8], size: u32) -> Style {
-    Style {
-        colour,
-        size,
-        bold: false,
-        anchor: Anchor::Start,
+/// What an element is and how it looks, and the line of a report that it shows, where it shows one.
+#[derive(Clone, Copy)]
+pub struct Shape {
+    pub tag: Tag,
+    pub look: Look,
+    pub line: Option<u32>,
+}
+
+fn tag_word(tag: Tag) -> &'static [u8]
+    ensures { result.now ≡ tag_name tag }
+{
+    match tag {
+        Tag::Style => b"style",
+        Tag::Rect => b"rect",
+        Tag::Line => b"line",
+        Tag::Circle => b"circle",
+        Tag::Text => b"text",
     }
 }
 
-/// Begins a picture of this size, on white.
-pub fn put_head<K: Sink>(out: &mut Writer<'_, K>, width: u32, height: u32) {
-    out.put(
-        b"<svg xmlns=\"http://www.w3.org/2000/svg\" font-family=\"DejaVu Sans, Verdana, sans-serif\"",
-    );
-    put_attribute(out, b"width", width);
-    put_attribute(out, b"height", height);
-    out.put(b" viewBox=\"0 0 ");
-    out.put_number(u64::from(width));
+fn look_word(look: Look) -> &'static [u8]
+    ensures { result.now ≡ look_name look }
+{
+    match look {
+        Look::Plain => b"plain",
+        Look::Page => b"page",
+        Look::Title => b"title",
+        Look::Note => b"note",
+        Look::Small => b"small",
+        Look::Right => b"right",
+        Look::RightNote => b"right note",
+        Look::RightAlarm => b"right alarm",
+        Look::Box => b"box",
+        Look::Life => b"life",
+        Look::Frame => b"frame",
+        Look::Data => b"data",
+        Look::DataLost => b"data lost",
+        Look::DataWords => b"data words",
+        Look::Control => b"control",
+        Look::ControlLost => b"control lost",
+        Look::ControlWords => b"control words",
+        Look::Name => b"name",
+        Look::NameLost => b"name lost",
+        Look::NameWords => b"name words",
+        Look::Fault => b"fault",
+        Look::FaultLost => b"fault lost",
+        Look::Alarm => b"alarm",
+        Look::Done => b"done",
+        Look::Refused => b"refused",
+        Look::Again => b"again",
+        Look::Wait => b"wait",
+        Look::WaitEnded => b"wait ended",
+        Look::WaitWords => b"wait words",
+        Look::Free => b"free",
+        Look::OnWay => b"onway",
+        Look::Held => b"held",
+        Look::Returned => b"returned",
+    }
+}
+
+fn key_word(key: Key) -> &'static [u8]
+    ensures { result.now ≡ key_name key }
+{
+    match key {
+        Key::X => b"x",
+        Key::Y => b"y",
+        Key::Width => b"width",
+        Key::Height => b"height",
+        Key::X1 => b"x1",
+        Key::Y1 => b"y1",
+        Key::X2 => b"x2",
+        Key::Y2 => b"y2",
+        Key::Cx => b"cx",
+        Key::Cy => b"cy",
+        Key::Radius => b"r",
+    }
+}
+
+/// Begins a picture of this size.
+pub fn put_head<K: Sink>(out: &mut Writer<'_, K>, width: u32, height: u32)
+    ensures { Puts K.Sink out.old out.new (head width height) }
+{
+    out.put(b"<svg xmlns=\"http://www.w3.org/2000/svg\" width=\"");
+    out.put_number(width as u64);
+    out.put(b"\" height=\"");
+    out.put_number(height as u64);
+    out.put(b"\" viewBox=\"0 0 ");
+    out.put_number(width as u64);
     out.put(b" ");
-    out.put_number(u64::from(height));
-    out.put(b"\">\n<rect width=\"100%\" height=\"100%\" fill=\"#fff\"/>\n");
+    out.put_number(height as u64);
+    out.put(b"\">\n");
 }
 
 /// Ends a picture.
-pub fn put_end<K: Sink>(out: &mut Writer<'_, K>) {
+pub fn put_end<K: Sink>(out: &mut Writer<'_, K>)
+    ensures { Puts K.Sink out.old out.new page_end }
+{
     out.put(b"</svg>\n");
 }
 
-/// Puts an attribute of a number, with a blank before it.
-fn put_attribute<K: Sink>(out: &mut Writer<'_, K>, name: &[u8], value: u32) {
+fn put_number<K: Sink>(out: &mut Writer<'_, K>, number: Number)
+    ensures { Puts K.Sink out.old out.new (attribute number) }
+{
     out.put(b" ");
-    out.put(name);
+    out.put(key_word(number.key));
     out.put(b"=\"");
-    out.put_number(u64::from(value));
+    out.put_number(number.value as u64);
     out.put(b"\"");
 }
 
-/// Puts a text.
-pub fn put_words<K: Sink>(out: &mut Writer<'_, K>, spot: Spot, style: Style, text: &[u8]) {
-    begin_words(out, spot, style);
-    put_xml(out, text);
-    end_words(out);
-}
-
-/// Begins a text, with a white edge so that lines beneath do not cross it.
-pub fn begin_words<K: Sink>(out: &mut Writer<'_, K>, spot: Spot, style: Style) {
-    out.put(b"<text");
-    put_attribute(out, b"x", spot.x);
-    put_attribute(out, b"y", spot.y);
-    put_attribute(out, b"font-size", style.size);
-    out.put(b" fill=\"");
-    out.put(style.colour);
-    out.put(b"\" stroke=\"#fff\" stroke-width=\"3\" paint-order=\"stroke\"");
-    if style.bold {
-        out.put(b" font-weight=\"bold\"");
+fn put_numbers<K: Sink>(out: &mut Writer<'_, K>, numbers: &[Number])
+    ensures { Puts K.Sink out.old out.new (flat_map attribute numbers.now) }
+{
+    for number in numbers {
+        put_number(out, *number);
     }
-    if matches!(style.anchor, Anchor::End) {
-        out.put(b" text-anchor=\"end\"");
+}
+
+fn put_line_mark<K: Sink>(out: &mut Writer<'_, K>, line: Option<u32>)
+    ensures { Puts K.Sink out.old out.new (line_mark line) }
+{
+    if let Some(line) = line {
+        out.put(b" data-line=\"");
+        out.put_number(line as u64);
+        out.put(b"\"");
     }
-    out.put(b">");
 }
 
-/// Ends a text.
-pub fn end_words<K: Sink>(out: &mut Writer<'_, K>) {
-    out.put(b"</text>\n");
-}
-
-/// Puts a rectangle of a colour, with an edge of another.
-pub fn put_area<K: Sink>(out: &mut Writer<'_, K>, area: Area, fill: &[u8], edge: &[u8]) {
-    out.put(b"<rect");
-    put_attribute(out, b"x", area.x);
-    put_attribute(out, b"y", area.y);
-    put_attribute(out, b"width", area.width);
-    put_attribute(out, b"height", area.height);
-    out.put(b" fill=\"");
-    out.put(fill);
-    out.put(b"\" stroke=\"");
-    out.put(edge);
-    out.put(b"\"/>\n");
-}
-
-/// Puts a line between two places. `more` are further attributes.
-pub fn put_stroke<K: Sink>(
+/// Puts an element whole: its opening tag with its attributes, a text, and its closing tag.
+pub fn put_element<K: Sink>(
     out: &mut Writer<'_, K>,
-    from: Spot,
-    to: Spot,
-    colour: &[u8],
-    more: &[u8],
-) {
-    out.put(b"<line");
-    put_attribute(out, b"x1", from.x);
-    put_attribute(out, b"y1", from.y);
-    put_attribute(out, b"x2", to.x);
-    put_attribute(out, b"y2", to.y);
-    out.put(b" stroke=\"");
-    out.put(colour);
+    shape: Shape,
+    numbers: &[Number],
+    content: &[u8],
+)
+    ensures exact { Puts K.Sink out.old out.new (markup (element shape numbers.now content.now)) }
+    ensures element { PutsElements K.Sink out.old out.new (option_to_list shape.line) }
+{
+    out.put(b"<");
+    out.put(tag_word(shape.tag));
+    out.put(b" class=\"");
+    out.put(look_word(shape.look));
     out.put(b"\"");
-    out.put(more);
-    out.put(b"/>\n");
-}
-
-/// Puts a point.
-pub fn put_point<K: Sink>(out: &mut Writer<'_, K>, spot: Spot, fill: &[u8], edge: &[u8]) {
-    out.put(b"<circle");
-    put_attribute(out, b"cx", spot.x);
-    put_attribute(out, b"cy", spot.y);
-    out.put(b" r=\"4\" fill=\"");
-    out.put(fill);
-    out.put(b"\" stroke=\"");
-    out.put(edge);
-    out.put(b"\"/>\n");
+    put_line_mark(out, shape.line);
+    put_numbers(out, numbers);
+    out.put(b">");
+    put_xml(out, content);
+    out.put(b"</");
+    out.put(tag_word(shape.tag));
+    out.put(b">\n");
 }
