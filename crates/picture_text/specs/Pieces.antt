@@ -1,5 +1,5 @@
 -- Pieces of an output, each written whole, and the lines of a report that they show.
--- Source: docs/FORMATS.md, "Pictures".
+-- Source: docs/FORMATS.md, "Views of a report".
 use Rattle.std.specs.Prelude.{◌≡◌, ℕ, List}
 use Rattle.std.specs.List.{flat_map}
 use Rattle.outer_io.specs.Puts.{Puts}
