@@ -1,5 +1,5 @@
 -- What a frame carries fits into an item.
--- Source: docs/FORMATS.md, "Payload header": a frame carries at most 488 bytes of a message or a packet.
+-- Source: docs/FORMATS.md, "Payload header, version 1": a frame carries at most 488 bytes of a message or a packet.
 use Rattle.std.specs.Prelude.{◌≤◌, length}
 use Rattle.mc_base.specs.Letter.{PlainLetter, msg, packet}
 use Rattle.mc_base.specs.Reading.{Reading, says, brings}
