@@ -1,0 +1,5 @@
+//! Tests of `item_book` by its public calls, in a crate of their own so that it is proved once.
+#![tactic(auto)]
+
+#[cfg(test)]
+mod books;
