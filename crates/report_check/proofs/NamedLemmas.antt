@@ -10,13 +10,14 @@ use Rattle.board_model.specs.Change.{changed_all}
 use Rattle.board_model.specs.DomainCall.{DomainCall}
 use Rattle.board_model.specs.Journal.{PlainAnswer}
 use Rattle.board_model.specs.Deeds.{Deed, looks_back, puts_owed, looks_ahead, takes, calls, after_deed, after_deeds, along}
-use Rattle.board_model.specs.Returns.{given_at_once, given_by_frame, names_given}
+use Rattle.board_model.specs.Returns.{given_by_frame, names_given}
 use Rattle.board_model.specs.State.{DomainState, frames_from}
 use Rattle.board_model.specs.Unnamed.{no_names, unnamed}
 use Rattle.board_model.proofs.DeedJoins.{after-join, along-join}
 use Rattle.board_model.proofs.UnnamedDeeds.{deed-unnamed}
 use Rattle.board_model.proofs.RenamedCalls.{refusal-renamed}
-use Rattle.report_replay.specs.Naming.{AddsBy, AddsItems, names_for}
+use Rattle.report_replay.specs.Dealt.{AddsFor}
+use Rattle.report_replay.specs.Naming.{AddsItems, names_for}
 use Rattle.report_check.specs.NamedStates.{plain, takes_of, takes_in, placed_deed, placed, AreFew, HasDone, GoesOn}
 use Rattle.report_check.specs.declared.named_state.NamedState.{NamedState}
 
@@ -104,12 +105,12 @@ module _ (s : NamedState) (u : DomainState) where
 
 -- ---- a frame that is taken
 
-module _ (s t : NamedState) (peer place : ℕ) (frame : List ℕ) (word : Fate) (small : peer < 8) (at : place ≡ slice_index s.taken peer) (state : t.state ≡ after_deed s.state (takes peer (Some place) frame word)) (gives : given_by_frame s.state peer (Some place) frame word ≡ given_at_once word (place ∷ [])) where
+module _ (s t : NamedState) (peer place : ℕ) (frame : List ℕ) (word : Fate) (small : peer < 8) (at : place ≡ slice_index s.taken peer) (state : t.state ≡ after_deed s.state (takes peer (Some place) frame word)) where
   abbrev unnamed_take : Deed
   unnamed_take = takes peer None frame word
 
   pub goes-take : ((p : ℕ) → p < 8 → slice_index s.taken peer + 1 < 2 ^ 32 → slice_index t.taken p ≡ slice_index s.taken p + cond (peer == p) 1 0)
-      → AddsBy (λ p. cond (peer == p) (given_at_once word (place ∷ [])) []) s.given t.given → GoesOn s t (unnamed_take ∷ [])
+      → AddsFor peer (given_by_frame s.state peer (Some place) frame word) s.given t.given → GoesOn s t (unnamed_take ∷ [])
   goes-take counts adds = record {
     plain = ap unnamed state ∙ deed-unnamed s.state (takes peer (Some place) frame word);
     named = λ first before few done.
@@ -122,8 +123,7 @@ module _ (s t : NamedState) (peer place : ℕ) (frame : List ℕ) (word : Fate) 
           taken = λ p within. counts p within room;
           given = λ p within.
               adds p within
-              ∙ (ap (λ (ns : List ℕ). names_for p s.given ++ cond (peer == p) ns []) (sym gives)
-              ∙ ap (λ n. names_for p s.given ++ cond (peer == p) (given_by_frame s.state peer (Some n) frame word) []) name);
+              ∙ ap (λ n. names_for p s.given ++ cond (peer == p) (given_by_frame s.state peer (Some n) frame word) []) name;
         });
   }
 

@@ -2,13 +2,10 @@
 
 ghost use Rattle.std.specs.Prelude.{◌≡◌, ◌+◌, ◌^◌, ◌==◌, ◌∷◌, [], ◌<◌, ℕ, None, IfOk, OnOk, if◌then◌else◌, slice_index};
 ghost use Rattle.board_model.specs.Answer.{refusal};
-ghost use Rattle.board_model.specs.Dealing.{keeps_buffer as stays};
 ghost use Rattle.board_model.specs.Deeds.{calls, takes};
-ghost use Rattle.board_model.specs.Returns.{given_at_once};
 ghost use Rattle.board_model.specs.Journal.{PlainAnswer};
 ghost use Rattle.board_model.specs.TakenFrames.{row_from};
 ghost use Rattle.report_replay.specs.Effects.{HasOwnAddresses};
-ghost use Rattle.report_replay.specs.Naming.{AddsBy};
 ghost use Rattle.report_replay.specs.PlainCalls.{plain_call};
 ghost use Rattle.report_check.specs.NamedStates.{GoesOn, HasDone, plain};
 
@@ -38,16 +35,18 @@ impl NamedState {
         }
     }
 
-    /// Takes a frame that was shown from a peer, by the name of its place, and returns its word. Where its buffer is let go, its place is noted.
+    /// Takes a frame that was shown from a peer, by the name of its place, and returns its word. The places of the frames whose buffers are
+    /// given back are noted.
     pub(crate) fn take(&mut self, alloc: Global, peer: u8, frame: &[u8]) -> Result<Fate, NoMemory>
         requires { peer < 8 }
         ensures word { IfOk result (λ word. word ≡ (row_from (plain self.old) peer None frame.now).word) }
         ensures goes { IfOk result (λ word. GoesOn self.old self.new (takes peer None frame.now word ∷ [])) }
     {
         let place = self.taken[usize::from(peer)];
-        let word = self.state.take(alloc, peer, Some(place), frame)?;
+        let word = self
+            .state
+            .take(alloc, peer, Some(place), frame, &mut self.given)?;
         count_one(&mut self.taken, peer);
-        note_at_once(&mut self.given, word, peer, place)?;
         Ok(word)
     }
 
@@ -74,21 +73,4 @@ fn count_one(taken: &mut [u32; 8], peer: u8)
 {
     let place = usize::from(peer);
     taken[place] = taken[place].saturating_add(1);
-}
-
-/// Notes the place of a frame from a peer, where its word lets go of its buffer.
-fn note_at_once(given: &mut FrameNames, word: Fate, peer: u8, place: u32) -> Result<(), NoMemory>
-    ensures { OnOk result (AddsBy (λ p. if peer == p then given_at_once word (place ∷ []) else []) given.old given.new) }
-{
-    if keeps_buffer(word) {
-        return Ok(());
-    }
-    given.add(peer, place)
-}
-
-/// Whether the buffer of a frame with this word stays with the domain.
-fn keeps_buffer(word: Fate) -> bool
-    ensures { result ≡ stays word }
-{
-    matches!(word, Fate::Queued | Fate::Handed | Fate::Part)
 }

@@ -9,4 +9,4 @@ pub returns-clause-word : goal.returns-clause-word
 returns-clause-word c = c.in_ok-word.ensures.word ∙ ap (λ (r : Row). r.word) (sym (row-unnamed c.args.self.now.state c.args.peer (Some _) c.args.frame.now))
 
 pub returns-clause-goes : goal.returns-clause-goes
-returns-clause-goes c = goes-take c.args.self.now _ c.args.peer _ c.args.frame.now c.in_ok-word.word c.requires (ap (slice_index c.args.self.now.taken) c.from.ensures) c.in_ok-word.ensures.state c.in_ok-word.ensures.gives c.count_one.ensures c.in_ok-note_at_once.ensures
+returns-clause-goes c = goes-take c.args.self.now _ c.args.peer _ c.args.frame.now c.in_ok-word.word c.requires (ap (slice_index c.args.self.now.taken) c.from.ensures) c.in_ok-word.ensures.state c.count_one.ensures c.in_ok-word.ensures.given
