@@ -1,7 +1,7 @@
 //! Looks at the lanes of a domain that has just been opened, and frames that it takes.
 
 use mc_base::{Fate, NoMemory};
-use report_replay::State;
+use report_replay::{FrameNames, State};
 use std::alloc::Global;
 use std::process::Abort;
 use std::test::Fail;
@@ -18,18 +18,18 @@ const MESSAGE: &[u8] = &[
 ];
 
 /// The first two bytes of a message of four bytes from address 1030 to address 1024, and the other two.
-static FIRST_PART: [u8; 30] = [
+const FIRST_PART: &[u8] = &[
     6, 4, 0, 0, 0, 4, 0, 0, 0, 0, 0, 0, 14, 0, 0, 0, 0x4d, 2, 1, 2, 0, 0, 0, 0, 4, 0, 0, 0, 0xab,
     0xcd,
 ];
 
-static SECOND_PART: [u8; 30] = [
+const SECOND_PART: &[u8] = &[
     6, 4, 0, 0, 0, 4, 0, 0, 0, 0, 0, 0, 14, 0, 0, 0, 0x4d, 2, 1, 2, 0, 0, 0, 0, 4, 0, 2, 0, 0xef,
     0x01,
 ];
 
 /// A part of a packet of two bytes that is all of it, on channel 3.
-static WHOLE_PART: [u8; 30] = [
+const WHOLE_PART: &[u8] = &[
     6, 4, 0, 0, 0, 4, 0, 0, 0, 0, 0, 0, 14, 0, 0, 0, 0x4d, 2, 7, 0, 3, 0, 0, 0, 2, 0, 0, 0, 0xab,
     0xcd,
 ];
@@ -73,8 +73,12 @@ fn assert_words(
     state: &mut State,
     rows: &[Row],
 ) -> Result<(), Fail> {
+    let mut names = FrameNames::new(alloc);
     for (i, (peer, frame, word)) in rows.iter().enumerate() {
-        assert!(rt; state.take(alloc, *peer, None, frame)? == *word, "row {i}");
+        assert!(rt;
+            state.take(alloc, *peer, None, frame, &mut names)? == *word,
+            "row {i}"
+        );
     }
     Ok(())
 }
@@ -86,15 +90,18 @@ fn frames_have_the_words_that_the_state_has_for_them(rt: HostRuntime) -> Result<
     assert_words(&rt, rt.alloc(), &mut state, &ROWS)
 }
 
+static PARTS: [Row; 4] = [
+    (1, FIRST_PART, Fate::Stray),
+    (1, SECOND_PART, Fate::Stray),
+    (1, WHOLE_PART, Fate::Stray),
+    (1, MESSAGE, Fate::NoEndpoint),
+];
+
 #[test]
 fn parts_are_stray(rt: HostRuntime) -> Result<(), Fail> {
-    let alloc = rt.alloc();
-    let mut state = opened(alloc)?;
+    let mut state = opened(rt.alloc())?;
     assert!(rt; state.look_ahead(1, 4) == 4);
-    assert!(rt; state.take(alloc, 1, None, &FIRST_PART)? == Fate::Stray);
-    assert!(rt; state.take(alloc, 1, None, &SECOND_PART)? == Fate::Stray);
-    assert!(rt; state.take(alloc, 1, None, &WHOLE_PART)? == Fate::Stray);
-    assert!(rt; state.take(alloc, 1, None, &MESSAGE)? == Fate::NoEndpoint);
+    assert_words(&rt, rt.alloc(), &mut state, &PARTS)?;
     assert!(rt; state.held_from(1) == 0);
     Ok(())
 }

@@ -1,11 +1,11 @@
-//! The names of the frames whose buffers a call gives back.
+//! The names of the frames whose buffers a call or a frame gives back.
 
 ghost use Rattle.std.specs.Prelude.{IfOk};
 ghost use Rattle.board_model.proofs.StateEnds.{Ends};
 
 use arrayvec::ArrayVec;
-use mc_base::{Bits, Fate, Kind, NoMemory, Side};
-use report_replay::{DomainCall, FrameNames, State};
+use mc_base::{Bits, Fate, Kind, NoMemory, Priority, Side};
+use report_replay::{Carrier, DomainCall, FrameNames, Part, State};
 use std::alloc::Global;
 use std::process::Abort;
 use std::test::Fail;
@@ -34,6 +34,31 @@ const PACKET: &[u8] = &[
 
 const SCALAR: &[u8] = &[
     6, 4, 0, 0, 0, 4, 0, 0, 0, 0, 0, 0, 9, 0, 0, 0, 0x4d, 1, 8, 1, 1, 0, 0, 0, 0xab,
+];
+
+/// Parts of a message of six bytes and priority 1 from address 1030 of domain 1 to address 1024: the fifth byte, the sixth, both, both of another
+/// priority, and the first two.
+const FIFTH: &[u8] = &[
+    6, 4, 0, 0, 0, 4, 0, 0, 0, 0, 0, 0, 13, 0, 0, 0, 0x4d, 2, 1, 1, 0, 0, 0, 0, 6, 0, 4, 0, 0x05,
+];
+
+const SIXTH: &[u8] = &[
+    6, 4, 0, 0, 0, 4, 0, 0, 0, 0, 0, 0, 13, 0, 0, 0, 0x4d, 2, 1, 1, 0, 0, 0, 0, 6, 0, 5, 0, 0x06,
+];
+
+const LAST_TWO: &[u8] = &[
+    6, 4, 0, 0, 0, 4, 0, 0, 0, 0, 0, 0, 14, 0, 0, 0, 0x4d, 2, 1, 1, 0, 0, 0, 0, 6, 0, 4, 0, 0x05,
+    0x06,
+];
+
+const OTHER_TWO: &[u8] = &[
+    6, 4, 0, 0, 0, 4, 0, 0, 0, 0, 0, 0, 14, 0, 0, 0, 0x4d, 2, 1, 2, 0, 0, 0, 0, 6, 0, 4, 0, 0x05,
+    0x06,
+];
+
+const FIRST_TWO: &[u8] = &[
+    6, 4, 0, 0, 0, 4, 0, 0, 0, 0, 0, 0, 14, 0, 0, 0, 0x4d, 2, 1, 1, 0, 0, 0, 0, 6, 0, 0, 0, 0x01,
+    0x02,
 ];
 
 /// Calls at port 7 of node 0, which has address 1024.
@@ -66,12 +91,16 @@ enum Event {
     Came(u32, &'static [u8], Fate),
     /// The buffers of these frames of a domain came back so far.
     Back(u8, &'static [u32]),
+    /// Four bytes of the message of six are in the open part of domain 1, which frames 3 and 4 brought.
+    Opened,
+    /// So many buffers of the lane from domain 1 are held, in queues and in its open part.
+    Queued(u64),
 }
 
 use Call::{
     Close, Delete, Open, Receive, ReceiveByte, Release, Request, RequestPacket, Test, Wait,
 };
-use Event::{Back, Came, Made};
+use Event::{Back, Came, Made, Opened, Queued};
 
 fn call_of(call: Call) -> DomainCall<'static> {
     match call {
@@ -129,12 +158,34 @@ fn make(
     Ok(true)
 }
 
-/// Takes a frame of domain 1, by this name.
-fn take(state: &mut State, alloc: Global, name: u32, frame: &[u8]) -> Result<Fate, NoMemory>
+/// Takes a frame of domain 1, by this name, and notes what it gives back.
+fn take(
+    state: &mut State,
+    alloc: Global,
+    name: u32,
+    frame: &[u8],
+    names: &mut FrameNames,
+) -> Result<Fate, NoMemory>
     requires { Ends state.old }
     ensures { IfOk result (λ word. Ends state.new) }
 {
-    state.take(alloc, 1, Some(name), frame)
+    state.take(alloc, 1, Some(name), frame, names)
+}
+
+/// Opens the part of domain 1.
+fn open_part(state: &mut State, alloc: Global) -> Result<(), NoMemory>
+    requires { Ends state.old }
+    ensures { IfOk result (λ done. Ends state.new) }
+{
+    let carrier = match Priority::new(1) {
+        Some(priority) => Carrier::Message(priority),
+        None => Carrier::Packet(1),
+    };
+    let Ok(content) = Vec::from_slice(alloc, &[1, 2, 3, 4]) else {
+        return Err(NoMemory);
+    };
+    let part = Part::new(1030, 1024, carrier, 6, content);
+    state.open_part(1, part, &[3, 4])
 }
 
 /// Domain 0 with one node and an endpoint, whose lanes to itself have two buffers, and to domain 1 eight.
@@ -158,8 +209,13 @@ fn happens(
 {
     match event {
         Made(call) => make(state, alloc, &call_of(call), names),
-        Came(name, frame, word) => Ok(take(state, alloc, name, frame)? == word),
+        Came(name, frame, word) => Ok(take(state, alloc, name, frame, names)? == word),
         Back(peer, due) => Ok(names.from_peer(peer) == due),
+        Opened => {
+            open_part(state, alloc)?;
+            Ok(true)
+        }
+        Queued(count) => Ok(state.queued_from(1) == count),
     }
 }
 
@@ -262,4 +318,74 @@ fn scalars_are_given_back_as_they_are_received_and_by_the_close(
     rt: HostRuntime,
 ) -> Result<(), Fail> {
     assert_all(&rt, rt.alloc(), &SCALARS_RECEIVED)
+}
+
+static WHOLE_DELETED: [Event; 6] = [
+    Opened,
+    Queued(2),
+    Came(5, LAST_TWO, Fate::Queued),
+    Queued(3),
+    Made(Delete),
+    Back(1, &[3, 4, 5]),
+];
+
+#[test]
+fn a_delete_drops_a_message_of_several_frames(rt: HostRuntime) -> Result<(), Fail> {
+    assert_all(&rt, rt.alloc(), &WHOLE_DELETED)
+}
+
+static WHOLE_HANDED: [Event; 9] = [
+    Made(Request),
+    Opened,
+    Came(5, FIFTH, Fate::Part),
+    Queued(3),
+    Back(1, &[]),
+    Came(6, SIXTH, Fate::Handed),
+    Queued(0),
+    Made(Test(0)),
+    Back(1, &[3, 4, 5, 6]),
+];
+
+#[test]
+fn a_message_is_handed_once_it_is_whole(rt: HostRuntime) -> Result<(), Fail> {
+    assert_all(&rt, rt.alloc(), &WHOLE_HANDED)
+}
+
+static PART_ENDED: [Event; 6] = [
+    Opened,
+    Came(5, LATE, Fate::Queued),
+    Back(1, &[3, 4]),
+    Queued(1),
+    Came(6, LAST_TWO, Fate::Stray),
+    Back(1, &[3, 4, 6]),
+];
+
+#[test]
+fn another_frame_ends_the_open_part(rt: HostRuntime) -> Result<(), Fail> {
+    assert_all(&rt, rt.alloc(), &PART_ENDED)
+}
+
+static STRAY: [Event; 5] = [
+    Opened,
+    Came(5, OTHER_TWO, Fate::Stray),
+    Back(1, &[3, 4, 5]),
+    Opened,
+    Came(6, FIRST_TWO, Fate::Stray),
+];
+
+#[test]
+fn a_piece_of_another_message_ends_the_open_part(rt: HostRuntime) -> Result<(), Fail> {
+    assert_all(&rt, rt.alloc(), &STRAY)
+}
+
+static WHOLE_DROPPED: [Event; 4] = [
+    Made(Delete),
+    Opened,
+    Came(5, LAST_TWO, Fate::NoEndpoint),
+    Back(1, &[3, 4, 5]),
+];
+
+#[test]
+fn all_frames_of_a_message_that_nobody_has_are_given_back(rt: HostRuntime) -> Result<(), Fail> {
+    assert_all(&rt, rt.alloc(), &WHOLE_DROPPED)
 }
