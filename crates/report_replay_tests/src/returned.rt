@@ -291,9 +291,9 @@ static PACKET_RELEASED: [Event; 8] = [
     Made(RequestPacket),
     Came(1, PACKET, Fate::Handed),
     Made(Test(0)),
-    Back(1, &[]),
+    Back(1, &[0]),
     Made(Release(0)),
-    Back(1, &[1]),
+    Back(1, &[0, 1]),
 ];
 
 #[test]
@@ -308,9 +308,9 @@ static SCALARS_RECEIVED: [Event; 9] = [
     Came(2, SCALAR, Fate::Queued),
     Came(3, SCALAR, Fate::Queued),
     Made(ReceiveByte),
-    Back(1, &[1]),
+    Back(1, &[0, 1]),
     Made(Close),
-    Back(1, &[1, 2, 3]),
+    Back(1, &[0, 1, 2, 3]),
 ];
 
 #[test]
