@@ -1,5 +1,5 @@
 -- What a call of a domain leaves on the lanes.
-use Rattle.std.proofs.Common.{◌≡◌, ℕ, cond, List, ◌∷◌, map, Option, Some, refl, sym, ap, ◌∙◌, subst}
+use Rattle.std.proofs.Common.{◌≡◌, ℕ, cond, List, ◌∷◌, length, map, Option, Some, refl, sym, ap, ◌∙◌, subst}
 use Rattle.std.specs.Prelude.{◌==◌, slice_get, slice_set}
 use Rattle.std.specs.List.{AllByRecursion}
 use Rattle.mc_base.specs.declared.request.RequestId.{RequestId}
@@ -13,21 +13,22 @@ use Rattle.board_model.specs.CallChanges.{call_changes, returned}
 use Rattle.board_model.specs.Journal.{PlainAnswer}
 use Rattle.board_model.specs.Loads.{Load, loads_given}
 use Rattle.board_model.specs.Scenario.{Lane, lanes}
-use Rattle.board_model.specs.State.{DomainState}
+use Rattle.board_model.specs.State.{DomainState, frames_from}
 use Rattle.board_model.specs.SerialRun.{Running, loads_with_puts}
 use Rattle.board_model.proofs.DeedJoins.{changes-keep}
 use Rattle.board_model.proofs.MessageAlls.{all-weaken, all-with}
+use Rattle.board_model.proofs.WholeCalls.{frames_for}
 use Rattle.board_model.proofs.WholePeers.{call_numbers}
 use Rattle.domain_core.specs.AllMoved.{call_moves}
 use Rattle.domain_core.specs.Calls.{Does}
 use Rattle.domain_core.specs.Ends.{EndsMoved}
-use Rattle.domain_core.specs.InBook.{item_at}
 use Rattle.board_runner.specs.declared.station.Station.{Station}
 use Rattle.board_runner.specs.Near.{Near, RunDomain, near_among, near_of, peers_of, EndsMatch}
 use Rattle.board_runner.specs.Stations.{near, IsRun, LaneHolds, LaneJoins}
 use Rattle.board_runner.proofs.RunBoards.{run-board, matched-at}
 use Rattle.board_runner.proofs.CallLanes.{loads_called, lane-called}
-use Rattle.board_runner.proofs.NearCalled.{peer-called}
+use Rattle.board_runner.proofs.NamedItems.{named-many}
+use Rattle.board_runner.proofs.NearCalled.{NearCalled, peer-called}
 use Rattle.board_runner.proofs.PeersLanes.{HasPeer, sends-to-peer, receives-from-peer}
 use Rattle.board_runner.proofs.RunStations.{domains_in, number_in, numbers-differ, near-was, near-replaced, holds-stands, stands-holds}
 use Rattle.board_runner.proofs.RunTurns.{joins-replaced}
@@ -55,7 +56,9 @@ call_kept s board r sts run at st new is node call answered given does =
     let differ = numbers-differ s board r sts run in
     let number : number_in new ≡ n = ap (λ (x : DomainState). x.number) does.state ∙ changes-keep (λ x. x.number) (λ x c. refl) old (call_changes old node call) in
     let peers : peers_of new.domain ≡ ps = ap (λ (x : DomainState). map (λ p. p.number) x.peers) does.state ∙ call_numbers old node call in
-    let called = peer-called (item_at st.domain.book) (λ slot. refl) (λ slot. refl) n frames does.slots items ps st.domain.ends new.domain.ends matched does.returned does.moved in
+    let named = returned st.domain.numbered node call in
+    let called : (q : ℕ) → HasPeer ps q → NearCalled (q == n) (frames_for q frames) (length (frames_from q items)) (near_among ps st.domain.ends q) (near_among ps new.domain.ends q)
+    = λ q has. subst (λ (k : ℕ). NearCalled (q == n) (frames_for q frames) k (near_among ps st.domain.ends q) (near_among ps new.domain.ends q)) (named-many st.domain node call q) (peer-called n frames named ps st.domain.ends new.domain.ends matched does.moved q has) in
     let near_new : (q : ℕ) → near_among ps new.domain.ends q ≡ near_of new.domain q = λ q. ap (λ (xs : List ℕ). near_among xs new.domain.ends q) (sym peers) in
     let own' : ℕ → Near = λ q. near_among ps new.domain.ends q in
     let loads = loads_called n frames items r.loads in
@@ -71,7 +74,7 @@ call_kept s board r sts run at st new is node call answered given does =
           (receives-from-peer s board sts on_board at st is)
           (all-with (LaneHolds (domains_in sts) r.loads) (λ (l : Lane). l.sender ≡ n → HasPeer ps l.receiver) (λ l. LaneHolds (domains_in sts) r.loads l × (l.sender ≡ n → HasPeer ps l.receiver)) (λ l holds to. (holds, to)) (lanes s) run.holds (sends-to-peer s board sts on_board at st is));
       joins =
-          all-weaken (LaneJoins (domains_in sts)) (LaneJoins (domains_in (slice_set sts at new))) (joins-replaced sts at st new (call_moves frames does.slots ps) differ is number does.moved) (lanes s) run.joins;
+          all-weaken (LaneJoins (domains_in sts)) (LaneJoins (domains_in (slice_set sts at new))) (joins-replaced sts at st new (call_moves frames named ps) differ is number does.moved) (lanes s) run.joins;
       peers = peers;
-      matched = subst (λ (xs : List ℕ). EndsMatch n xs new.domain.ends) (sym peers) (ends-match n ps st.domain.ends (call_moves frames does.slots ps) new.domain.ends matched does.moved);
+      matched = subst (λ (xs : List ℕ). EndsMatch n xs new.domain.ends) (sym peers) (ends-match n ps st.domain.ends (call_moves frames named ps) new.domain.ends matched does.moved);
     }

@@ -10,7 +10,6 @@ use Rattle.lane_end.specs.declared.any.AnySend.{AnySend}
 use Rattle.lane_end.specs.declared.any.AnyRecv.{AnyRecv}
 use Rattle.lane_end.specs.declared.any.AnySend.TheVariants as send
 use Rattle.lane_end.specs.declared.any.AnyRecv.TheVariants as recv
-use Rattle.mc_base.specs.declared.request.Slot.{Slot}
 use Rattle.board_model.specs.declared.scenario.DomainLine.{DomainLine}
 use Rattle.board_model.specs.declared.scenario.Scenario.{Scenario}
 use Rattle.board_model.specs.Scenario.{Lane, lanes, rising}
@@ -18,6 +17,7 @@ use Rattle.board_model.specs.LinkedBoard.{Differ, IsLinkedBoard}
 use Rattle.board_model.specs.Journal.{Visit, Taken, is_idle}
 use Rattle.board_model.specs.Loads.{frames_on, returned_on}
 use Rattle.board_model.specs.SerialRun.{Running}
+use Rattle.board_model.specs.State.{Item, frames_from}
 use Rattle.board_model.proofs.ListsApart.{all-unmap}
 use Rattle.board_model.proofs.MessageAlls.{all-weaken, all-with}
 use Rattle.board_model.proofs.PlaceBoards.{neighbours_differ}
@@ -25,7 +25,7 @@ use Rattle.board_model.proofs.WholeHas.{Has, has-gives}
 use Rattle.board_model.proofs.WholeTakes.{frames_of}
 use Rattle.domain_core.specs.declared.Ends.TheVariants.{Own, Linked}
 use Rattle.domain_core.specs.Carrying.{AnyLink}
-use Rattle.domain_core.specs.AllMoved.{AllMoved, call_moves, frames_to, buffers_of, moves_at}
+use Rattle.domain_core.specs.AllMoved.{AllMoved, call_moves, frames_to, moves_at}
 use Rattle.domain_core.specs.LaneMoves.{LaneMove, sends, receives}
 use Rattle.domain_core.specs.Turned.{Turns}
 use Rattle.board_runner.specs.declared.station.Station.{Station}
@@ -104,11 +104,11 @@ pub record AfterCall (old new : Near) : Type 0 where
   pub taken : new.got.taken ≡ old.got.taken
   pub knows : Knows old new
 
-pub after-call : (n : ℕ) (puts : List (ℕ × List ℕ)) (slots : List Slot) (ps : List ℕ) (es es' : List RunEnds) → EndsMatch n ps es → AllMoved Moved es (call_moves puts slots ps) es' → (q : ℕ) → q ≢ n → AfterCall (near_among ps es q) (near_among ps es' q)
-after-call n puts slots =
-    near-moved AfterCall (λ x. record { taken = refl; knows = record { come = omega arith; back = omega arith } }) (moves_at puts slots)
+pub after-call : (n : ℕ) (puts : List (ℕ × List ℕ)) (items : List Item) (ps : List ℕ) (es es' : List RunEnds) → EndsMatch n ps es → AllMoved Moved es (call_moves puts items ps) es' → (q : ℕ) → q ≢ n → AfterCall (near_among ps es q) (near_among ps es' q)
+after-call n puts items =
+    near-moved AfterCall (λ x. record { taken = refl; knows = record { come = omega arith; back = omega arith } }) (moves_at puts items)
     (λ p a b to moved.
-    let c = link-called (frames_to p puts) (buffers_of p slots) p a b to moved in
+    let c = link-called (frames_to p puts) (frames_from p items) p a b to moved in
     record { taken = c.got.taken; knows = record { come = c.got.grows; back = c.sent.grows } }) n
 
 -- what is true after it was true before it

@@ -9,6 +9,7 @@ pub mod ExactVisits
 pub mod HeldLemmas
 pub mod LanesNear
 pub mod LineLemmas
+pub mod NamedItems
 pub mod NearCalled
 pub mod NearCarried
 pub mod NearEnds

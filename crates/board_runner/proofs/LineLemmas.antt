@@ -143,11 +143,7 @@ calls_domain node call old new lines start lines' answered id m same c noted is 
       answer = noted ∙ c.does.answer;
       state = c.does.state;
       numbered = c.does.numbered;
-      slots = c.does.slots;
-      returned = c.does.returned;
-      named = c.does.named;
       moved = c.does.moved;
-      stays = c.does.stays;
       ids = c.does.ids ∙ ap (λ (o : Option RequestId). without (place_ended c.turned_to.state node call) c.turned_to.ids ++ option_to_list o) (sym is);
       fresh = subst (λ (o : Option RequestId). IfSome o (IsFresh c.turned_to.ids c.turned_to.state)) (sym is) c.does.fresh;
       lent = c.does.lent;
@@ -172,7 +168,7 @@ lookup_anywhere node name old new lines lines' m made =
         numbers = c.numbers;
         turned_to = c.turned_to;
         turns = c.turns;
-        does = record { answer = d.answer; state = d.state; numbered = d.numbered; slots = d.slots; returned = d.returned; named = d.named; moved = d.moved; stays = d.stays; ids = d.ids; fresh = d.fresh; lent = d.lent; packets = d.packets; lends = d.lends };
+        does = record { answer = d.answer; state = d.state; numbered = d.numbered; moved = d.moved; ids = d.ids; fresh = d.fresh; lent = d.lent; packets = d.packets; lends = d.lends };
         told = c.told;
       };
       gives = made.gives;
@@ -190,7 +186,7 @@ release_anywhere node place old new lines lines' m made =
         numbers = c.numbers;
         turned_to = c.turned_to;
         turns = c.turns;
-        does = record { answer = d.answer; state = d.state; numbered = d.numbered; slots = d.slots; returned = d.returned; named = d.named; moved = d.moved; stays = d.stays; ids = d.ids; fresh = d.fresh; lent = d.lent; packets = d.packets; lends = d.lends };
+        does = record { answer = d.answer; state = d.state; numbered = d.numbered; moved = d.moved; ids = d.ids; fresh = d.fresh; lent = d.lent; packets = d.packets; lends = d.lends };
         told = c.told;
       };
       gives = made.gives;
@@ -208,7 +204,7 @@ test_anywhere node place old new lines lines' m made =
         numbers = c.numbers;
         turned_to = c.turned_to;
         turns = c.turns;
-        does = record { answer = d.answer; state = d.state; numbered = d.numbered; slots = d.slots; returned = d.returned; named = d.named; moved = d.moved; stays = d.stays; ids = d.ids; fresh = d.fresh; lent = d.lent; packets = d.packets; lends = d.lends };
+        does = record { answer = d.answer; state = d.state; numbered = d.numbered; moved = d.moved; ids = d.ids; fresh = d.fresh; lent = d.lent; packets = d.packets; lends = d.lends };
         told = c.told;
       };
       gives = made.gives;
@@ -226,7 +222,7 @@ cancel_anywhere node place old new lines lines' m made =
         numbers = c.numbers;
         turned_to = c.turned_to;
         turns = c.turns;
-        does = record { answer = d.answer; state = d.state; numbered = d.numbered; slots = d.slots; returned = d.returned; named = d.named; moved = d.moved; stays = d.stays; ids = d.ids; fresh = d.fresh; lent = d.lent; packets = d.packets; lends = d.lends };
+        does = record { answer = d.answer; state = d.state; numbered = d.numbered; moved = d.moved; ids = d.ids; fresh = d.fresh; lent = d.lent; packets = d.packets; lends = d.lends };
         told = c.told;
       };
       gives = made.gives;
@@ -244,7 +240,7 @@ raw_anywhere node to bytes old new lines lines' m made =
         numbers = c.numbers;
         turned_to = c.turned_to;
         turns = c.turns;
-        does = record { answer = d.answer; state = d.state; numbered = d.numbered; slots = d.slots; returned = d.returned; named = d.named; moved = d.moved; stays = d.stays; ids = d.ids; fresh = d.fresh; lent = d.lent; packets = d.packets; lends = d.lends };
+        does = record { answer = d.answer; state = d.state; numbered = d.numbered; moved = d.moved; ids = d.ids; fresh = d.fresh; lent = d.lent; packets = d.packets; lends = d.lends };
         told = c.told;
       };
       gives = made.gives;
@@ -262,7 +258,7 @@ turn_anywhere node old new lines lines' m made =
         numbers = c.numbers;
         turned_to = c.turned_to;
         turns = c.turns;
-        does = record { answer = d.answer; state = d.state; numbered = d.numbered; slots = d.slots; returned = d.returned; named = d.named; moved = d.moved; stays = d.stays; ids = d.ids; fresh = d.fresh; lent = d.lent; packets = d.packets; lends = d.lends };
+        does = record { answer = d.answer; state = d.state; numbered = d.numbered; moved = d.moved; ids = d.ids; fresh = d.fresh; lent = d.lent; packets = d.packets; lends = d.lends };
         told = c.told;
       };
       gives = made.gives;

@@ -2,7 +2,6 @@
 use Rattle.std.proofs.Common.{◌≡◌, ℕ, ◌+◌, ◌≤◌, Bool, true, false, cond, List, [], ◌∷◌, ◌++◌, length, map, flat_map, sum, filter, refl, sym, ap, ◌∙◌, subst, inl, inr, arith, append-nil, length-append, eqb-true, eq-eqb, ne_eqb, true≢false}
 use Rattle.std.specs.Prelude.{◌==◌}
 use Rattle.std.proofs.lemmas.List.{length-map}
-use Rattle.mc_base.specs.declared.request.Slot.{Slot}
 use Rattle.lane_end.specs.Halves.{IsRingSend, IsRingRecv}
 use Rattle.lane_end.specs.SendMoves.{SendMove, Sent}
 use Rattle.lane_end.specs.ReceiveMoves.{ReceiveMove, Gave}
@@ -18,14 +17,14 @@ use Rattle.lane_end.specs.declared.any.AnyRecv.{AnyRecv}
 use Rattle.lane_end.specs.declared.any.AnySend.TheVariants as send
 use Rattle.lane_end.specs.declared.any.AnyRecv.TheVariants as recv
 use Rattle.lane_end.specs.Loop.{Loop}
-use Rattle.board_model.specs.State.{Item, is_from, frames_from}
+use Rattle.board_model.specs.State.{Item, frames_from}
 use Rattle.board_model.proofs.WholeCalls.{frames_for}
 use Rattle.domain_core.specs.declared.Ends.TheVariants.{Own, Linked}
 use Rattle.domain_core.specs.LaneMoves.{receiver, sends, receives}
 use Rattle.domain_core.specs.LinkMoved.{LinkMoved}
 use Rattle.domain_core.specs.LoopMoved.{LoopMoved, loop_after}
 use Rattle.domain_core.specs.VisitMoves.{putting}
-use Rattle.domain_core.specs.AllMoved.{AllMoved, giving, frames_to, buffers_of, moves_at, call_moves}
+use Rattle.domain_core.specs.AllMoved.{AllMoved, giving, frames_to, moves_at, call_moves}
 use Rattle.domain_core.specs.Carrying.{AnyLink}
 use Rattle.board_runner.specs.Near.{Near, SentNear, GotNear, RunEnds, sent_by, got_by, sent_near, got_near, IsLinkTo, near_to, near_among, EndsMatch}
 use Rattle.board_runner.proofs.NearEnds.{contents, loads-frames, sent_puts, puts_show_none, sends_putting, receives_putting, loop-put}
@@ -136,35 +135,35 @@ own-called frames ns a b moved =
 
 -- ---- at the ends towards each peer
 
-abbrev CalledAt : ℕ → List (ℕ × List ℕ) → List Slot → ℕ → Near → Near → Type 0
-CalledAt n puts slots p old new = NearCalled (p == n) (frames_to p puts) (length (buffers_of p slots)) old new
+abbrev CalledAt : ℕ → List (ℕ × List ℕ) → List Item → ℕ → Near → Near → Type 0
+CalledAt n puts items p old new = NearCalled (p == n) (frames_to p puts) (length (frames_from p items)) old new
 
-one_called : (n : ℕ) (puts : List (ℕ × List ℕ)) (slots : List Slot) (p : ℕ) (ps : List ℕ) (e e' : RunEnds) (es : List RunEnds) → EndsMatch n (p ∷ ps) (e ∷ es) → Moved e (moves_at puts slots p) e' → CalledAt n puts slots p (near_to e) (near_to e')
-one_called n puts slots p ps (Own a) (Own b) es matched moved =
-    subst (λ (o : Bool). NearCalled o (frames_to p puts) (length (buffers_of p slots)) (near_to (Own a)) (near_to (Own b))) (sym (eq-eqb p n matched.0)) (own-called (frames_to p puts) (buffers_of p slots) a b moved)
-one_called n puts slots p ps (Linked a) (Linked b) es matched moved =
-    subst (λ (o : Bool). NearCalled o (frames_to p puts) (length (buffers_of p slots)) (near_to (Linked a)) (near_to (Linked b))) (sym (ne_eqb p n matched.0)) (link-called (frames_to p puts) (buffers_of p slots) p a b matched.1 moved)
-one_called n puts slots p ps (Own a) (Linked b) es matched moved = absurd moved
-one_called n puts slots p ps (Linked a) (Own b) es matched moved = absurd moved
+one_called : (n : ℕ) (puts : List (ℕ × List ℕ)) (items : List Item) (p : ℕ) (ps : List ℕ) (e e' : RunEnds) (es : List RunEnds) → EndsMatch n (p ∷ ps) (e ∷ es) → Moved e (moves_at puts items p) e' → CalledAt n puts items p (near_to e) (near_to e')
+one_called n puts items p ps (Own a) (Own b) es matched moved =
+    subst (λ (o : Bool). NearCalled o (frames_to p puts) (length (frames_from p items)) (near_to (Own a)) (near_to (Own b))) (sym (eq-eqb p n matched.0)) (own-called (frames_to p puts) (frames_from p items) a b moved)
+one_called n puts items p ps (Linked a) (Linked b) es matched moved =
+    subst (λ (o : Bool). NearCalled o (frames_to p puts) (length (frames_from p items)) (near_to (Linked a)) (near_to (Linked b))) (sym (ne_eqb p n matched.0)) (link-called (frames_to p puts) (frames_from p items) p a b matched.1 moved)
+one_called n puts items p ps (Own a) (Linked b) es matched moved = absurd moved
+one_called n puts items p ps (Linked a) (Own b) es matched moved = absurd moved
 
 pub match_rest : (n p : ℕ) (ps : List ℕ) (e : RunEnds) (es : List RunEnds) → EndsMatch n (p ∷ ps) (e ∷ es) → EndsMatch n ps es
 match_rest n p ps (Own l) es matched = matched.1
 match_rest n p ps (Linked l) es matched = matched.2
 
-among-called : (n : ℕ) (puts : List (ℕ × List ℕ)) (slots : List Slot) (ps : List ℕ) (es es' : List RunEnds) → EndsMatch n ps es → AllMoved Moved es (call_moves puts slots ps) es' → (q : ℕ) → HasPeer ps q → CalledAt n puts slots q (near_among ps es q) (near_among ps es' q)
-among-called n puts slots [] es es' matched moved q has = absurd has
-among-called n puts slots (p ∷ ps) [] es' matched moved q has = absurd matched
-among-called n puts slots (p ∷ ps) (e ∷ es) [] matched moved q has = absurd moved
-among-called n puts slots (p ∷ ps) (e ∷ es) (e' ∷ es') matched moved q has =
-    go (p == q) refl has (λ later. among-called n puts slots ps es es' (match_rest n p ps e es matched) moved.1 q later)
+among-called : (n : ℕ) (puts : List (ℕ × List ℕ)) (items : List Item) (ps : List ℕ) (es es' : List RunEnds) → EndsMatch n ps es → AllMoved Moved es (call_moves puts items ps) es' → (q : ℕ) → HasPeer ps q → CalledAt n puts items q (near_among ps es q) (near_among ps es' q)
+among-called n puts items [] es es' matched moved q has = absurd has
+among-called n puts items (p ∷ ps) [] es' matched moved q has = absurd matched
+among-called n puts items (p ∷ ps) (e ∷ es) [] matched moved q has = absurd moved
+among-called n puts items (p ∷ ps) (e ∷ es) (e' ∷ es') matched moved q has =
+    go (p == q) refl has (λ later. among-called n puts items ps es es' (match_rest n p ps e es matched) moved.1 q later)
   where
-    go : (b : Bool) → (p == q) ≡ b → HasPeer (p ∷ ps) q → (HasPeer ps q → CalledAt n puts slots q (near_among ps es q) (near_among ps es' q))
-        → CalledAt n puts slots q (cond b (near_to e) (near_among ps es q)) (cond b (near_to e') (near_among ps es' q))
-    go true is here later = subst (λ (x : ℕ). CalledAt n puts slots x (near_to e) (near_to e')) (eqb-true p q is) (one_called n puts slots p ps e e' es matched moved.0)
+    go : (b : Bool) → (p == q) ≡ b → HasPeer (p ∷ ps) q → (HasPeer ps q → CalledAt n puts items q (near_among ps es q) (near_among ps es' q))
+        → CalledAt n puts items q (cond b (near_to e) (near_among ps es q)) (cond b (near_to e') (near_among ps es' q))
+    go true is here later = subst (λ (x : ℕ). CalledAt n puts items x (near_to e) (near_to e')) (eqb-true p q is) (one_called n puts items p ps e e' es matched moved.0)
     go false is (inl here) later = absurd (true≢false (sym (eq-eqb p q here) ∙ is))
     go false is (inr there) later = later there
 
--- ---- by the items whose buffers are given back
+-- ---- at a peer that the domain has
 
 frames_same : (q : ℕ) (puts : List (ℕ × List ℕ)) → frames_to q puts ≡ frames_for q puts
 frames_same q [] = refl
@@ -174,19 +173,8 @@ frames_same q (p ∷ ps) = go (p.0 == q) (frames_same q ps)
     go true rest = ap (λ (fs : List (List ℕ)). p.1 ∷ fs) rest
     go false rest = rest
 
--- what is given back, where the item that each buffer held came from its slot's peer
-module _ (item : Slot → Item) (same : (s : Slot) → (item s).peer ≡ s.peer) (one : (s : Slot) → length (item s).frames ≡ 1) where
-  buffers_many : (q : ℕ) (slots : List Slot) → length (buffers_of q slots) ≡ length (frames_from q (map item slots))
-  buffers_many q [] = refl
-  buffers_many q (s ∷ ss) = go (s.peer == q) refl (buffers_many q ss)
-    where
-      go : (x : Bool) → (s.peer == q) ≡ x → length (buffers_of q ss) ≡ length (frames_from q (map item ss))
-          → length (map (λ (y : Slot). y.buffer) (cond x (s ∷ filter (λ (y : Slot). y.peer == q) ss) (filter (λ (y : Slot). y.peer == q) ss))) ≡ length (frames_from q (map item (s ∷ ss)))
-      go true is rest = omega (arith, rest, one s, length-append (item s).frames (frames_from q (map item ss)), ap (λ b. length (flat_map (λ (i : Item). i.frames) (cond b (item s ∷ filter (is_from q) (map item ss)) (filter (is_from q) (map item ss))))) (ap (λ (k : ℕ). k == q) (same s) ∙ is))
-      go false is rest = omega (arith, rest, ap (λ b. length (flat_map (λ (i : Item). i.frames) (cond b (item s ∷ filter (is_from q) (map item ss)) (filter (is_from q) (map item ss))))) (ap (λ (k : ℕ). k == q) (same s) ∙ is))
-
-  pub peer-called : (n : ℕ) (puts : List (ℕ × List ℕ)) (slots : List Slot) (items : List Item) (ps : List ℕ) (es es' : List RunEnds) → EndsMatch n ps es → map item slots ≡ items → AllMoved Moved es (call_moves puts slots ps) es'
-      → (q : ℕ) → HasPeer ps q → NearCalled (q == n) (frames_for q puts) (length (frames_from q items)) (near_among ps es q) (near_among ps es' q)
-  peer-called n puts slots items ps es es' matched returned moved q has =
-      subst (λ (fs : List (List ℕ)). NearCalled (q == n) fs (length (frames_from q items)) (near_among ps es q) (near_among ps es' q)) (frames_same q puts)
-      (subst (λ (k : ℕ). NearCalled (q == n) (frames_to q puts) k (near_among ps es q) (near_among ps es' q)) (buffers_many q slots ∙ ap (λ (is : List Item). length (frames_from q is)) returned) (among-called n puts slots ps es es' matched moved q has))
+-- by the frames that the board's loads count
+pub peer-called : (n : ℕ) (puts : List (ℕ × List ℕ)) (items : List Item) (ps : List ℕ) (es es' : List RunEnds) → EndsMatch n ps es → AllMoved Moved es (call_moves puts items ps) es'
+    → (q : ℕ) → HasPeer ps q → NearCalled (q == n) (frames_for q puts) (length (frames_from q items)) (near_among ps es q) (near_among ps es' q)
+peer-called n puts items ps es es' matched moved q has =
+    subst (λ (fs : List (List ℕ)). NearCalled (q == n) fs (length (frames_from q items)) (near_among ps es q) (near_among ps es' q)) (frames_same q puts) (among-called n puts items ps es es' matched moved q has)

@@ -3,7 +3,6 @@ use Rattle.std.proofs.Common.{◌≡◌, ℕ, suc, ◌+◌, Bool, true, false, c
 use Rattle.std.specs.Prelude.{◌==◌, slice_get}
 use Rattle.std.specs.List.{AllByRecursion}
 use Rattle.std.proofs.lemmas.List.{map-append}
-use Rattle.mc_base.specs.declared.request.Slot.{Slot}
 use Rattle.lane_end.specs.ReceiveMoves as receiving
 use Rattle.lane_end.specs.ReceiveMoves.{ReceiveMove, Took, Gave}
 use Rattle.board_model.specs.declared.scenario.CallLine.{CallLine}
@@ -14,7 +13,7 @@ use Rattle.board_model.specs.Journal.{PlainEntry, PlainAnswer, Visit, Taken}
 use Rattle.board_model.specs.JournalDeeds.{named_deeds, names_from, call_deeds}
 use Rattle.board_model.specs.Returns.{given_at_once, given_by_frame}
 use Rattle.board_model.specs.Serial.{put_entry}
-use Rattle.board_model.specs.State.{DomainState}
+use Rattle.board_model.specs.State.{DomainState, Item, frames_from}
 use Rattle.board_model.specs.Step.{RunState, next_line, after}
 use Rattle.board_model.specs.Traffic.{taken_from}
 use Rattle.board_model.specs.Turn.{takes_named, visit_deeds}
@@ -24,7 +23,7 @@ use Rattle.board_model.proofs.DeedJoins.{along-join}
 use Rattle.board_model.proofs.MessageAlls.{all-append}
 use Rattle.board_model.proofs.WholeJournals.{call_entries}
 use Rattle.domain_core.specs.AllMoved as core
-use Rattle.domain_core.specs.AllMoved.{frames_to, buffers_of, moves_at}
+use Rattle.domain_core.specs.AllMoved.{frames_to, moves_at}
 use Rattle.domain_core.specs.LaneMoves.{LaneMove, sender, receiver, receives}
 use Rattle.domain_core.specs.NumberedDeeds.{number_in, numbered_deeds, turn_deeds}
 use Rattle.domain_core.specs.Turned.{HaveNumbers}
@@ -166,8 +165,8 @@ given-dealt : (ns : List ℕ) → unlooked (receives (core.giving ns)) ≡ deals
 given-dealt [] = refl
 given-dealt (n ∷ ns) = ap (λ (ms : List ReceiveMove). Gave n ∷ ms) (given-dealt ns)
 
-pub call-dealt : (ps : List (ℕ × List ℕ)) (slots : List Slot) (p : ℕ) → unlooked (receives (moves_at ps slots p)) ≡ deals.giving (buffers_of p slots)
-call-dealt ps slots p = ap unlooked (receives-putting (frames_to p ps) (core.giving (buffers_of p slots))) ∙ given-dealt (buffers_of p slots)
+pub call-dealt : (ps : List (ℕ × List ℕ)) (items : List Item) (p : ℕ) → unlooked (receives (moves_at ps items p)) ≡ deals.giving (frames_from p items)
+call-dealt ps items p = ap unlooked (receives-putting (frames_to p ps) (core.giving (frames_from p items))) ∙ given-dealt (frames_from p items)
 
 deeds_stay : (lines : List CallLine) (r : RunState) (q : ℕ × List ℕ) (o : Option CallLine) (a : PlainAnswer) → call_deeds o (after lines r (put_entry q)) a ≡ call_deeds o r a
 deeds_stay lines r q None a = refl
@@ -180,7 +179,7 @@ call-noted lines r (q ∷ ps) k a = call-noted lines (after lines r (put_entry q
 
 -- ---- a state that holds nothing names nothing
 
-none-mapped : {A B : Type 0} (f : A → B) (xs : List A) → map f xs ≡ [] → xs ≡ []
+pub none-mapped : {A B : Type 0} (f : A → B) (xs : List A) → map f xs ≡ [] → xs ≡ []
 none-mapped {A} {B} f [] e = refl
 none-mapped {A} {B} f (x ∷ xs) e = absurd cc
 

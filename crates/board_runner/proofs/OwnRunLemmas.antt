@@ -164,7 +164,7 @@ module _ (s : Scenario) (board : IsLinkedBoard s) (d : DomainLine) (ends : List 
     matched =
         subst (λ (n : ℕ). EndsMatch n (peers_of called_to.domain) called_to.domain.ends) (sym (own_number s t turned_to turned_stands))
         (subst (λ (ps : List ℕ). EndsMatch d.domain ps called_to.domain.ends) (sym called_peers)
-        (ends-match d.domain (peers_of mid) mid.ends (call_moves (puts mid.state line.node call) calls.does.slots (peers_of mid)) called_to.domain.ends turned_matched calls.does.moved));
+        (ends-match d.domain (peers_of mid) mid.ends (call_moves (puts mid.state line.node call) (returned mid.numbered line.node call) (peers_of mid)) called_to.domain.ends turned_matched calls.does.moved));
   }
 
   comes_now : next_line lines t.run ≡ Some line

@@ -7,6 +7,7 @@ use Rattle.mc_base.specs.declared.refusal.Refusal.TheVariants.{Timeout}
 use Rattle.mc_base.specs.declared.request.RequestId.{RequestId}
 use Rattle.board_model.specs.declared.scenario.CallLine.{CallLine}
 use Rattle.board_model.specs.Answer.{answer, puts}
+use Rattle.board_model.specs.CallChanges.{returned}
 use Rattle.board_model.specs.Journal.{Line, PlainAnswer, Visit, noted, noted_all, refuses, turned, waits}
 use Rattle.board_model.specs.State.{DomainState}
 use Rattle.board_model.specs.Step.{is_timeout}
@@ -197,7 +198,7 @@ has-begun line old new e =
       awaited = awaited;
       told = ap (λ (x : Station). x.journal.lines) e.notes ∙ told;
       stays = e.notes ∙ same ∙ ap (λ (x : Station). turned_station old old.domain x.journal) (sym e.notes);
-      has_ends = ends_of_moves (moves_at (puts old.domain.state 0 (wait_on ids says old.domain)) once.does.slots) (peers_of old.domain) old.domain.ends to.domain.ends once.does.moved;
+      has_ends = ends_of_moves (moves_at (puts old.domain.state 0 (wait_on ids says old.domain)) (returned old.domain.numbered 0 (wait_on ids says old.domain))) (peers_of old.domain) old.domain.ends to.domain.ends once.does.moved;
     }
 
 -- turns leave what was called and dropped

@@ -5,7 +5,6 @@ use Rattle.std.proofs.lemmas.List.{length-map}
 use Rattle.std.proofs.lemmas.List.Sums.{sum_by-append}
 use Rattle.std.specs.List.{AllByRecursion, list_all}
 use Rattle.mc_base.specs.declared.refusal.Refusal.{Refusal}
-use Rattle.mc_base.specs.declared.request.Slot.{Slot}
 use Rattle.lane_end.specs.SendMoves.{Looked, Sent}
 use Rattle.lane_end.specs.ReceiveMoves as receiving
 use Rattle.lane_end.specs.Loop.{Loop}
@@ -35,7 +34,6 @@ use Rattle.domain_core.specs.LoopMoved.{LoopMoved, loop_after}
 use Rattle.domain_core.specs.LaneMoves.{LaneMove, sender, receiver, sends, receives}
 use Rattle.domain_core.specs.VisitMoves.{putting, taking, visit_moves}
 use Rattle.domain_core.specs.AllMoved.{AllMoved, turn_moves, call_moves}
-use Rattle.domain_core.specs.InBook.{item_at}
 use Rattle.mc_journal.specs.Entry.{plain_answer}
 use Rattle.board_runner.specs.declared.station.Station.{Station}
 use Rattle.board_runner.specs.declared.line.Made.{Made}
@@ -43,6 +41,7 @@ use Rattle.board_runner.specs.Near.{SentNear, GotNear, sent_by, got_by, sent_nea
 use Rattle.board_runner.specs.Carried.{DidNothing, StayCarried, StayCarriedWhere}
 use Rattle.board_runner.specs.Lines.{MakesCall, IsIdleWhere, call_by, call_at_station, is_idle_line, ends_idle, is_turn, is_quiet}
 use Rattle.board_runner.proofs.CallLemmas.{tried_nothing}
+use Rattle.board_runner.proofs.NamedItems.{named-none}
 use Rattle.board_runner.proofs.NearEnds.{contents, loads-frames}
 use Rattle.board_runner.proofs.RunCarried.{did-nothing, did-nothing-both}
 use Rattle.board_runner.proofs.TurnEnds.{Moved}
@@ -199,15 +198,10 @@ call_looks : (ps : List ℕ) → AllByRecursion OnlyLooks (call_moves [] [] ps)
 call_looks [] = tt
 call_looks (p ∷ ps) = (tt, call_looks ps)
 
-no_slots : (item : Slot → Item) (slots : List Slot) → map item slots ≡ [] → slots ≡ []
-no_slots item [] e = refl
-no_slots item (s ∷ ss) e = absurd cc
-
-call_stays : (es : List RunEnds) (frames : List (ℕ × List ℕ)) (item : Slot → Item) (slots : List Slot) (items : List Item) (ps : List ℕ) (es' : List RunEnds) → frames ≡ [] → items ≡ [] → map item slots ≡ items
-    → AllMoved Moved es (call_moves frames slots ps) es' → StayCarried es es'
-call_stays es frames item slots items ps es' no_frames no_items returned moved =
+call_stays : (es : List RunEnds) (frames : List (ℕ × List ℕ)) (items : List Item) (ps : List ℕ) (es' : List RunEnds) → frames ≡ [] → items ≡ [] → AllMoved Moved es (call_moves frames items ps) es' → StayCarried es es'
+call_stays es frames items ps es' no_frames no_items moved =
     stay_carried es (call_moves [] [] ps) es' (call_looks ps)
-    (subst (λ (ss : List Slot). AllMoved Moved es (call_moves [] ss ps) es') (no_slots item slots (returned ∙ no_items)) (subst (λ (fs : List (ℕ × List ℕ)). AllMoved Moved es (call_moves fs slots ps) es') no_frames moved))
+    (subst (λ (is : List Item). AllMoved Moved es (call_moves [] is ps) es') no_items (subst (λ (fs : List (ℕ × List ℕ)). AllMoved Moved es (call_moves fs items ps) es') no_frames moved))
 
 -- ---- what the last line tells
 
@@ -332,7 +326,7 @@ quiet-call line old new m makes quiet ps p =
     let none : returned s line.node call ≡ [] =
     either (is_turn line.call) (is_tried (plain_answer m.answer)) both.0 (turn_returns line old s) (λ tried. (tried_nothing s line.node call (ap is_tried (sym c.does.answer) ∙ tried)).returns_none) in
     did-nothing-both (near_among ps old.domain.ends p) (near_among ps c.turned_to.ends p) (near_among ps new.domain.ends p) (idle-stays old.domain.ends c.visits c.numbers c.turned_to.ends told.idle c.turns.moved ps p)
-    (call_stays c.turned_to.ends frames (item_at c.turned_to.book) c.does.slots (returned s line.node call) (map (λ q. q.number) s.peers) new.domain.ends told.no_puts none c.does.returned c.does.moved ps p)
+    (call_stays c.turned_to.ends frames (returned c.turned_to.numbered line.node call) (map (λ q. q.number) s.peers) new.domain.ends told.no_puts (named-none c.turned_to line.node call none) c.does.moved ps p)
 
 pub quiet-where : (line : CallLine) (old new : Station) (m : Made) (b : Bool) → MakesCall line old new m → b ≡ is_quiet line.call (plain_answer m.answer) new.journal.lines → StayCarriedWhere b old.domain.ends new.domain.ends
 quiet-where line old new m true makes is = quiet-call line old new m makes (sym is)

@@ -4,8 +4,6 @@ use Rattle.std.specs.Prelude.{◌==◌, Option, None, Some}
 use Rattle.std.specs.List.{AllByRecursion}
 use Rattle.std.proofs.lemmas.List.{map-append}
 use Rattle.mc_base.specs.declared.request.RequestId.{RequestId}
-use Rattle.mc_base.specs.declared.request.Slot.{Slot}
-use Rattle.buffer_book.specs.Book.{Book}
 use Rattle.lane_end.specs.AnySender.{AnySends, AnySends-none, AnySends-both}
 use Rattle.lane_end.specs.AnyReceiver.{AnyReceives, AnyReceives-none, AnyReceives-both}
 use Rattle.lane_end.specs.SendMoves.{Looked, Sent}
@@ -22,7 +20,7 @@ use Rattle.board_model.specs.DomainCall.{DomainCall}
 use Rattle.board_model.specs.Journal.{PlainEntry, turned, PlainAnswer, Visit, Taken}
 use Rattle.board_model.specs.LinkedBoard.{Differ}
 use Rattle.board_model.specs.Serial.{put_entry}
-use Rattle.board_model.specs.State.{DomainState, Item, is_from, frames_from}
+use Rattle.board_model.specs.State.{DomainState, Item, frames_from}
 use Rattle.board_model.specs.Step.{RunState, next_line, after}
 use Rattle.board_model.specs.Run.{after_all}
 use Rattle.board_model.specs.Traffic.{visits_to, returned_by}
@@ -32,10 +30,9 @@ use Rattle.board_model.proofs.DeedJoins.{after-join, along-join}
 use Rattle.board_model.proofs.MessageAlls.{all-append}
 use Rattle.board_model.proofs.WholeJournals.{call_entries}
 use Rattle.domain_core.specs.declared.Ends.TheVariants.{Own, Linked}
-use Rattle.domain_core.specs.AllMoved.{AllMoved, turn_moves, giving, frames_to, buffers_of, moves_at}
+use Rattle.domain_core.specs.AllMoved.{AllMoved, turn_moves, giving, frames_to, moves_at}
 use Rattle.domain_core.specs.Calls.{Does}
 use Rattle.domain_core.specs.Ends.{EndsMoved-both}
-use Rattle.domain_core.specs.InBook.{item_at}
 use Rattle.domain_core.specs.LaneMoves.{LaneMove, sender, receiver, receives}
 use Rattle.domain_core.specs.NumberedDeeds.{turn_deeds}
 use Rattle.domain_core.specs.LinkMoved.{link-none}
@@ -45,6 +42,7 @@ use Rattle.board_runner.specs.Near.{RunEnds, RunDomain, peers_of, EndsMatch}
 use Rattle.lane_images.specs.DeedMoves as deals
 use Rattle.lane_images.specs.DeedMoves.{deed_moves, unlooked, nameless_deed, IsNumbered}
 use Rattle.board_runner.specs.OwnRun.{unnumbered, visit_told, entry_told, moves_told, deeds_told, MovedAsTold}
+use Rattle.board_runner.proofs.NamedItems.{named-many}
 use Rattle.board_runner.proofs.NumberedMoves.{dealt-append, turn_at, turn-numbered, turn-nameless, turn-dealt, call-dealt, call-noted}
 use Rattle.board_runner.proofs.TurnEnds.{Moved}
 
@@ -132,24 +130,21 @@ given_once : (ns : List ℕ) → map unnumbered (giving ns) ≡ map (λ n. recei
 given_once [] = refl
 given_once (n ∷ ns) = ap (λ (ms : List LaneMove). receiver (Gave 0) ∷ ms) (given_once ns)
 
--- buffers that go back to a peer, by the items that they held
+-- the buffers of items that go back to a peer
 abbrev going_back : ℕ → List Item → List LaneMove
 going_back p items = map (λ name. receiver (Gave 0)) (frames_from p items)
 
-items_back : (book : Book) (p : ℕ) (slots : List Slot) → map (λ (n : ℕ). receiver (Gave 0)) (buffers_of p slots) ≡ going_back p (map (item_at book) slots)
-items_back book p [] = refl
-items_back book p (s ∷ ss) = go (s.peer == p) (items_back book p ss)
-  where
-    go : (b : Bool) → map (λ (n : ℕ). receiver (Gave 0)) (buffers_of p ss) ≡ going_back p (map (item_at book) ss)
-        → map (λ (n : ℕ). receiver (Gave 0)) (map (λ (y : Slot). y.buffer) (cond b (s ∷ filter (λ (y : Slot). y.peer == p) ss) (filter (λ (y : Slot). y.peer == p) ss)))
-        ≡ map (λ (name : ℕ). receiver (Gave 0)) (flat_map (λ (i : Item). i.frames) (cond b (item_at book s ∷ filter (is_from p) (map (item_at book) ss)) (filter (is_from p) (map (item_at book) ss))))
-    go true rest = ap (λ (ms : List LaneMove). receiver (Gave 0) ∷ ms) rest
-    go false rest = rest
+-- as many of them as there are frames
+as_many : (ns ms : List ℕ) → length ns ≡ length ms → map (λ (n : ℕ). receiver (Gave 0)) ns ≡ map (λ (n : ℕ). receiver (Gave 0)) ms
+as_many [] [] e = refl
+as_many [] (m ∷ ms) e = absurd (omega (arith, e))
+as_many (n ∷ ns) [] e = absurd (omega (arith, e))
+as_many (n ∷ ns) (m ∷ ms) e = ap (λ (xs : List LaneMove). receiver (Gave 0) ∷ xs) (as_many ns ms (omega (arith, e)))
 
-unnumbered_call : (book : Book) (ps : List (ℕ × List ℕ)) (slots : List Slot) (p : ℕ) → map unnumbered (moves_at ps slots p) ≡ putting (frames_to p ps) ++ going_back p (map (item_at book) slots)
-unnumbered_call book ps slots p =
-    unnumbered_putting (frames_to p ps) (giving (buffers_of p slots))
-    ∙ ap (λ (ms : List LaneMove). putting (frames_to p ps) ++ ms) (given_once (buffers_of p slots) ∙ items_back book p slots)
+unnumbered_call : (ps : List (ℕ × List ℕ)) (items : List Item) (p : ℕ) → map unnumbered (moves_at ps items p) ≡ putting (frames_to p ps) ++ going_back p items
+unnumbered_call ps items p =
+    unnumbered_putting (frames_to p ps) (giving (frames_from p items))
+    ∙ ap (λ (ms : List LaneMove). putting (frames_to p ps) ++ ms) (given_once (frames_from p items))
 
 -- a frame that is put does not change what the next line gives back
 back_stays : (lines : List CallLine) (r : RunState) (q : ℕ × List ℕ) (o : Option CallLine) → returned_by o (after lines r (put_entry q)) ≡ returned_by o r
@@ -176,14 +171,25 @@ module _ (lines : List CallLine) (r : RunState) (node : ℕ) (call : DomainCall)
   abbrev frames : List (ℕ × List ℕ)
   frames = puts old.state node call
 
-  dealt : (x : PlainAnswer) (p : ℕ) → unlooked (receives (moves_at frames does.slots p)) ≡ along (deed_moves p) old.numbered (calls node call x ∷ [])
-  dealt x p = call-dealt frames does.slots p ∙ (ap deals.giving (does.named p) ∙ sym (append-nil (deals.giving (frames_from p (returned old.numbered node call)))))
+  abbrev named : List Item
+  named = returned old.numbered node call
+
+  dealt : (x : PlainAnswer) (p : ℕ) → unlooked (receives (moves_at frames named p)) ≡ along (deed_moves p) old.numbered (calls node call x ∷ [])
+  dealt x p = call-dealt frames named p ∙ sym (append-nil (deals.giving (frames_from p named)))
+
+  -- as many buffers go back as the items of the state without names have frames
+  same_back : (p : ℕ) → going_back p named ≡ going_back p (returned old.state node call)
+  same_back p = as_many (frames_from p named) (frames_from p (returned old.state node call)) (named-many old node call p)
+
+  -- without the numbers of buffers, what it puts and gives back
+  without_numbers : (p : ℕ) → map unnumbered (moves_at frames named p) ≡ putting (frames_to p frames) ++ going_back p (returned old.state node call)
+  without_numbers p = unnumbered_call frames named p ∙ ap (λ (ms : List LaneMove). putting (frames_to p frames) ++ ms) (same_back p)
 
   pub call_moved : (k : ℕ) (a : PlainAnswer) → returned old.state node call ≡ returned_by (next_line lines r) r → call_deeds (next_line lines r) r a ≡ calls node call a ∷ []
       → MovedAsTold lines r (peers_of old) (call_entries frames k a) old.ends new.ends old.numbered new.numbered
   call_moved k a back deed = record {
-    moves = moves_at frames does.slots;
-    told = λ p. unnumbered_call old.book frames does.slots p ∙ ap (λ (items : List Item). putting (frames_to p frames) ++ going_back p items) (does.returned ∙ back) ∙ sym (call_told lines r p frames k a);
+    moves = moves_at frames named;
+    told = λ p. without_numbers p ∙ ap (λ (items : List Item). putting (frames_to p frames) ++ going_back p items) back ∙ sym (call_told lines r p frames k a);
     moved = does.moved;
     deeds = calls node call a ∷ [];
     numbered = (tt, tt);
@@ -196,10 +202,10 @@ module _ (lines : List CallLine) (r : RunState) (node : ℕ) (call : DomainCall)
   pub again_moved : (e : PlainEntry) (a : PlainAnswer) → ((p : ℕ) → entry_told lines r p e ≡ []) → frames ≡ [] → returned old.state node call ≡ [] → entry_deeds lines [] r e ≡ calls node call a ∷ []
       → MovedAsTold lines r (peers_of old) (e ∷ []) old.ends new.ends old.numbered new.numbered
   again_moved e a tells_none no_puts none_back deed = record {
-    moves = moves_at frames does.slots;
+    moves = moves_at frames named;
     told = λ p.
-        unnumbered_call old.book frames does.slots p
-        ∙ ap₂ (λ (fs : List (ℕ × List ℕ)) (items : List Item). putting (frames_to p fs) ++ going_back p items) no_puts (does.returned ∙ none_back)
+        without_numbers p
+        ∙ ap₂ (λ (fs : List (ℕ × List ℕ)) (items : List Item). putting (frames_to p fs) ++ going_back p items) no_puts none_back
         ∙ sym (append-nil (entry_told lines r p e) ∙ tells_none p);
     moved = does.moved;
     deeds = calls node call a ∷ [];

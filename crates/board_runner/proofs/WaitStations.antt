@@ -17,7 +17,7 @@ use Rattle.board_model.specs.Scenario.{script}
 use Rattle.board_model.specs.Serial.{put_entry}
 use Rattle.board_model.specs.SerialRun as run
 use Rattle.board_model.specs.SerialRun.{entered}
-use Rattle.board_model.specs.State.{DomainState, frames_from}
+use Rattle.board_model.specs.State.{DomainState, Item}
 use Rattle.board_model.specs.Step.{call_at, is_timeout, limit_of}
 use Rattle.board_model.specs.Tallies.{deleted_in}
 use Rattle.board_model.specs.Unnamed.{no_names}
@@ -130,7 +130,7 @@ nothing-station s t st node call d a h does nothing =
       peers = same_peers ∙ h.peers;
       matched =
           subst (λ (ps : List ℕ). EndsMatch t.line.domain ps d.ends) (sym same_peers)
-          (ends-match t.line.domain (peers_of st.domain) st.domain.ends (call_moves (puts st.domain.state node call) does.slots (peers_of st.domain)) d.ends h.matched does.moved);
+          (ends-match t.line.domain (peers_of st.domain) st.domain.ends (call_moves (puts st.domain.state node call) (returned st.domain.numbered node call) (peers_of st.domain)) d.ends h.matched does.moved);
     }
 
 -- a wait that is answered with a timeout lends nothing
@@ -156,11 +156,9 @@ module _ (ids : List RequestId) (says : Bool) (d : RunDomain) (rest : AllMoved M
       answer = is ∙ timeout-word (answer d.state 0 (wait_on ids says d)) waiting;
       state = sym nothing.effect_is;
       numbered = sym nothing_named.effect_is;
-      slots = [];
-      returned = sym nothing.returns_none;
-      named = λ peer. sym (ap (frames_from peer) nothing_named.returns_none);
-      moved = subst (λ (ps : List (ℕ × List ℕ)). AllMoved Moved d.ends (call_moves ps [] (peers_of d)) d.ends) (sym nothing.puts_none) rest;
-      stays = λ slot held apart. record { held = held; item = refl };
+      moved =
+          subst (λ (items : List Item). AllMoved Moved d.ends (call_moves (puts d.state 0 (wait_on ids says d)) items (peers_of d)) d.ends) (sym nothing_named.returns_none)
+          (subst (λ (ps : List (ℕ × List ℕ)). AllMoved Moved d.ends (call_moves ps [] (peers_of d)) d.ends) (sym nothing.puts_none) rest);
       ids = sym (ap (λ (p : Option ℕ). without p d.ids ++ []) nothing.ends_none ∙ append-nil d.ids);
       fresh = tt;
       lent = None;
@@ -209,11 +207,7 @@ module _ (s : Scenario) (t : run.Station) (st : Station) (h : IsStation s t st) 
       answer = does.answer ∙ ap (λ (c : DomainCall). answer state line.node c) named;
       state = does.state ∙ ap (λ (c : DomainCall). effect state line.node c) named;
       numbered = does.numbered ∙ ap (λ (c : DomainCall). effect st.domain.numbered line.node c) named;
-      slots = does.slots;
-      returned = does.returned ∙ ap (λ (c : DomainCall). returned state line.node c) named;
-      named = λ peer. does.named peer ∙ ap (λ (c : DomainCall). frames_from peer (returned st.domain.numbered line.node c)) named;
-      moved = subst (λ (c : DomainCall). AllMoved Moved st.domain.ends (call_moves (puts state line.node c) does.slots (peers_of st.domain)) called_to.domain.ends) named does.moved;
-      stays = does.stays;
+      moved = subst (λ (c : DomainCall). AllMoved Moved st.domain.ends (call_moves (puts state line.node c) (returned st.domain.numbered line.node c) (peers_of st.domain)) called_to.domain.ends) named does.moved;
       ids = does.ids ∙ ap₂ (λ (p : Option ℕ) (id : Option RequestId). without p st.domain.ids ++ option_to_list id) (ap (λ (c : DomainCall). place_ended state line.node c) named) (sym given);
       fresh = subst (λ (id : Option RequestId). IfSome id (IsFresh st.domain.ids state)) (sym given) tt;
       lent = does.lent;
@@ -242,7 +236,7 @@ module _ (s : Scenario) (t : run.Station) (st : Station) (h : IsStation s t st) 
       matched =
           subst (λ (n : ℕ). EndsMatch n (peers_of called_to.domain) called_to.domain.ends) (sym (own_number s t st h))
           (subst (λ (ps : List ℕ). EndsMatch t.line.domain ps called_to.domain.ends) (sym peers)
-          (ends-match t.line.domain (peers_of st.domain) st.domain.ends (call_moves (puts state line.node call) does.slots (peers_of st.domain)) called_to.domain.ends h.matched does-line.moved));
+          (ends-match t.line.domain (peers_of st.domain) st.domain.ends (call_moves (puts state line.node call) (returned st.domain.numbered line.node call) (peers_of st.domain)) called_to.domain.ends h.matched does-line.moved));
     }
 
   -- where it waits, its answer is a timeout, and that does nothing

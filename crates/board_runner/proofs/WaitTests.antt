@@ -7,7 +7,7 @@ use Rattle.mc_base.specs.declared.refusal.Refusal.TheVariants.{Timeout}
 use Rattle.mc_base.specs.declared.request.RequestId.{RequestId}
 use Rattle.board_model.specs.declared.scenario.CallLine.{CallLine}
 use Rattle.board_model.specs.Answer.{puts}
-use Rattle.board_model.specs.CallChanges.{call_changes}
+use Rattle.board_model.specs.CallChanges.{call_changes, returned}
 use Rattle.board_model.specs.DomainCall.{DomainCall}
 use Rattle.board_model.specs.Journal.{refuses}
 use Rattle.board_model.specs.State.{DomainState}
@@ -76,7 +76,7 @@ module _ (line : CallLine) (is_wait : IsSome (limit_of line.call)) (b : Bool) (o
   peers = ap peers_of keeps.domain ∙ ap (λ (x : DomainState). map (λ p. p.number) x.peers) at_once.does.state ∙ call_numbers st.domain.state 0 call
 
   abbrev moves : List (List LaneMove)
-  moves = call_moves (puts st.domain.state 0 call) at_once.does.slots (peers_of st.domain)
+  moves = call_moves (puts st.domain.state 0 call) (returned st.domain.numbered 0 call) (peers_of st.domain)
 
   moved : AllMoved Moved st.domain.ends moves new.domain.ends
   moved = subst (λ (d : RunDomain). AllMoved Moved st.domain.ends moves d.ends) (sym keeps.domain) at_once.does.moved

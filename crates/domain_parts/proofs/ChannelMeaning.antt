@@ -40,17 +40,16 @@ use Rattle.domain_parts.specs.LaneSeen.{LaneSeen}
 use Rattle.domain_parts.specs.declared.endpoints.Endpoint.{Endpoint}
 use Rattle.domain_parts.specs.declared.peer.Peer.{Peer}
 use Rattle.domain_parts.specs.declared.requests.Waiters.TheVariants as waiters
-use Rattle.domain_parts.specs.AllMoved.{giving, buffers_of, moves_at}
+use Rattle.domain_parts.specs.AllMoved.{giving}
 use Rattle.domain_parts.specs.Calls as calls
 use Rattle.domain_parts.specs.Calls.{IsFresh}
-use Rattle.domain_parts.specs.CallSteps.{Empties, Means, as_channel, call_steps, drops, emptying, if_some, putting_all}
+use Rattle.domain_parts.specs.CallSteps.{buffers_of, slot_moves, Empties, Means, as_channel, call_steps, drops, emptying, if_some, putting_all}
 use Rattle.domain_parts.specs.InBook.{asked_in, endpoint_in, endpoints_in, item_in, outcome_in}
 use Rattle.domain_parts.specs.LaneMoves.{LaneMove, sender}
 use Rattle.domain_parts.specs.Parts.{Holding, Parts, Sound, plain, state_of}
 use Rattle.domain_parts.specs.Peers.{state_in}
 use Rattle.domain_parts.specs.Records.{kept, slots_at, waiting_in}
 use Rattle.domain_parts.specs.Steps.{Did, Step, all_moves, channel_given, channel_set, done, done_all, frame_put, receives_ended, request_begun, step_moves, with_last}
-use Rattle.domain_parts.specs.Stores.{KeepsBut}
 use Rattle.domain_parts.specs.VisitMoves.{putting}
 use Rattle.domain_parts.proofs.Asking.{asked-state}
 use Rattle.domain_parts.proofs.Beginning.{last-ids}
@@ -64,7 +63,6 @@ use Rattle.domain_parts.proofs.Removing.{gone-items}
 use Rattle.domain_parts.proofs.StateFits.{ends-of}
 use Rattle.domain_parts.proofs.Stepping.{did-then, done-append, quiet-peers}
 use Rattle.domain_parts.proofs.Steps.{drops-place, frame_put-is, frame_put-keeps, no-slots, queue-long}
-use Rattle.domain_parts.proofs.Storing.{keeps-but_none}
 use Rattle.domain_parts.proofs.TurnMeaning.{channel_given-is, endpoints-set, receives_ended-is}
 use Rattle.domain_parts.proofs.TurnSteps.{receives_ended-keeps}
 
@@ -113,7 +111,7 @@ put-there d f true = refl
 put-there d f false = refl
 
 -- one frame is put, and buffers are given back
-put-moves : (d : ℕ) (f : List ℕ) (slots : List Slot) (n : ℕ) → step_moves (frame_put d f) n ++ giving (buffers_of n slots) ≡ moves_at ((d, f) ∷ []) slots n
+put-moves : (d : ℕ) (f : List ℕ) (slots : List Slot) (n : ℕ) → step_moves (frame_put d f) n ++ giving (buffers_of n slots) ≡ slot_moves ((d, f) ∷ []) slots n
 put-moves d f slots n = ap (λ (ms : List LaneMove). ms ++ giving (buffers_of n slots)) (put-there d f (d == n))
 
 -- ---- steps that were made
@@ -197,7 +195,6 @@ module _ (p : Parts) (sound : Sound p) (at : Local) (i : ℕ) (there : place_at 
       slots = [];
       returned = refl;
       moves = λ n. ap (λ (cs : List Step). all_moves cs n) connect-steps ∙ put-moves to.domain connect_frame [] n;
-      stays = subst (λ (cs : List Step). KeepsBut [] p.book (done_all cs p).book) (sym connect-steps) (keeps-but_none p.book);
       ids = ap (λ (cs : List Step). ids_in (done_all cs p).requests) connect-steps ∙ last-ids p.requests id (ask.Connect number) None;
       fresh = fresh;
       lent = None;
@@ -250,8 +247,7 @@ module _ (p : Parts) (sound : Sound p) (at : Local) (i : ℕ) (there : place_at 
         state = ap (λ (cs : List Step). state_of (done_all cs p)) open-steps ∙ open-state;
         slots = [];
         returned = refl;
-        moves = λ n. ap (λ (cs : List Step). all_moves cs n) open-steps ∙ put-moves c.peer open_frame [] n ∙ ap (λ (fs : List (ℕ × List ℕ)). moves_at fs [] n) (sym open-puts);
-        stays = subst (λ (cs : List Step). KeepsBut [] p.book (done_all cs p).book) (sym open-steps) (keeps-but_none p.book);
+        moves = λ n. ap (λ (cs : List Step). all_moves cs n) open-steps ∙ put-moves c.peer open_frame [] n ∙ ap (λ (fs : List (ℕ × List ℕ)). slot_moves fs [] n) (sym open-puts);
         ids = ap (λ (cs : List Step). ids_in (done_all cs p).requests) open-steps ∙ sym (append-nil (ids_in p.requests));
         fresh = tt;
         lent = None;
@@ -309,7 +305,7 @@ module _ (p : Parts) (sound : Sound p) (at : Local) (i : ℕ) (there : place_at 
         ∙ ap (λ (u : DomainState). changed_all u (change.waiting_ended a0 ChanClosed ∷ change.queue_dropped a0 (closed_end c) ∷ [])) (used-is p sound c.peer (close_frame Receiver) j peer)
         ∙ ap (changed_all s) (sym (end-changes (closing Receiver)))
 
-    recv-moves : (n : ℕ) → all_moves (close_list Receiver) n ≡ moves_at ((c.peer, close_frame Receiver) ∷ []) (slots_at p.records i) n
+    recv-moves : (n : ℕ) → all_moves (close_list Receiver) n ≡ slot_moves ((c.peer, close_frame Receiver) ∷ []) (slots_at p.records i) n
     recv-moves n =
         let ss = slots_at p.records i in
         ap (λ (ms : List LaneMove). step_moves (frame_put c.peer (close_frame Receiver)) n ++ ms) (moves-cons (receives_ended at ChanClosed) (drops i ss) (channel_set i close_end) n ∙ drops-moves i ss (channel_set i close_end) n refl)
@@ -332,8 +328,7 @@ module _ (p : Parts) (sound : Sound p) (at : Local) (i : ℕ) (there : place_at 
           state = ap (λ (cs : List Step). state_of (done_all cs p)) steps ∙ send-state;
           slots = [];
           returned = refl;
-          moves = λ n. ap (λ (cs : List Step). all_moves cs n) steps ∙ put-moves c.peer (close_frame Sender) [] n ∙ ap (λ (fs : List (ℕ × List ℕ)). moves_at fs [] n) (sym (close-puts Sender));
-          stays = subst (λ (cs : List Step). KeepsBut [] p.book (done_all cs p).book) (sym steps) (keeps-but_none p.book);
+          moves = λ n. ap (λ (cs : List Step). all_moves cs n) steps ∙ put-moves c.peer (close_frame Sender) [] n ∙ ap (λ (fs : List (ℕ × List ℕ)). slot_moves fs [] n) (sym (close-puts Sender));
           ids = ap (λ (cs : List Step). ids_in (done_all cs p).requests) steps ∙ sym (append-nil (ids_in p.requests));
           fresh = tt;
           lent = None;
@@ -347,8 +342,7 @@ module _ (p : Parts) (sound : Sound p) (at : Local) (i : ℕ) (there : place_at 
           state = ap (λ (cs : List Step). state_of (done_all cs p)) steps ∙ recv-state;
           slots = ss;
           returned = gone-items plain p.book p.records p.requests p.table p.peers at i sound there ∙ returned-agrees s at.node (close_at at.port Receiver);
-          moves = λ n. ap (λ (cs : List Step). all_moves cs n) steps ∙ recv-moves n ∙ ap (λ (fs : List (ℕ × List ℕ)). moves_at fs ss n) (sym (close-puts Receiver));
-          stays = subst (λ (cs : List Step). KeepsBut ss p.book (done_all cs p).book) (sym steps) (subst (λ (x : Parts). KeepsBut ss p.book x.book) last-is left.stays);
+          moves = λ n. ap (λ (cs : List Step). all_moves cs n) steps ∙ recv-moves n ∙ ap (λ (fs : List (ℕ × List ℕ)). slot_moves fs ss n) (sym (close-puts Receiver));
           ids =
               ap (λ (cs : List Step). ids_in (done_all cs p).requests) steps
               ∙ ap (λ (x : Parts). ids_in x.requests) (sym last-is)

@@ -29,14 +29,12 @@ use Rattle.packet_channel.specs.End.{may}
 use Rattle.scalar_channel.specs.Scalar.{scalar_of}
 use Rattle.domain_parts.specs.LaneSeen.{LaneSeen}
 use Rattle.domain_parts.specs.declared.peer.Peer.{Peer}
-use Rattle.domain_parts.specs.AllMoved.{moves_at}
 use Rattle.domain_parts.specs.Calls.{success_ends, success_releases}
-use Rattle.domain_parts.specs.CallSteps.{Means, call_steps, if_some, oldest_slot, putting_all}
+use Rattle.domain_parts.specs.CallSteps.{slot_moves, Means, call_steps, if_some, oldest_slot, putting_all}
 use Rattle.domain_parts.specs.InBook.{endpoints_in, numbered_at, item_in}
 use Rattle.domain_parts.specs.Parts.{Parts, Sound, plain, state_of}
 use Rattle.domain_parts.specs.Records.{waiting_in}
 use Rattle.domain_parts.specs.Steps.{Step, all_moves, done, done_all, oldest_dropped}
-use Rattle.domain_parts.specs.Stores.{KeepsBut}
 use Rattle.board_model.proofs.StateEnds.{by_address}
 use Rattle.domain_parts.proofs.CallsAgree.{returned-agrees, there_at}
 use Rattle.domain_parts.proofs.ChannelMeaning.{changed-there, end-changes, used-is}
@@ -49,7 +47,6 @@ use Rattle.domain_parts.proofs.Removing.{gone-items}
 use Rattle.domain_parts.proofs.StateFits.{ends-of}
 use Rattle.domain_parts.proofs.Steps.{oldest_dropped-left}
 use Rattle.domain_parts.proofs.Waits.{queue-there}
-use Rattle.domain_parts.proofs.Storing.{keeps-away, keeps-but_none}
 
 -- an item is sent over the channel of an endpoint
 module _ (p : Parts) (sound : Sound p) (at : Local) (i : ℕ) (there : place_at (state_of p) at ≡ Some i) (c : ChannelEnd) (has : channel_at (state_of p) at ≡ Some c) (a : ℕ) (address : Some a ≡ address_at (state_of p) at) (j : ℕ) (peer : Some j ≡ position (λ (x : Peer LaneSeen). x.number == c.peer) p.peers)
@@ -68,8 +65,7 @@ module _ (p : Parts) (sound : Sound p) (at : Local) (i : ℕ) (there : place_at 
         state = ap (λ (cs : List Step). state_of (done_all cs p)) is ∙ used-is p sound c.peer frame j peer ∙ ap (changed_all (state_of p)) (sym (changes ∙ end-changes p sound at i there c has a address j peer (λ e d. buffers_used d.peer 1 ∷ [])));
         slots = [];
         returned = sym back;
-        moves = λ n. ap (λ (cs : List Step). all_moves cs n) is ∙ one-put c.peer frame (c.peer == n) ∙ ap (λ (fs : List (ℕ × List ℕ)). moves_at fs [] n) (sym puts);
-        stays = subst (λ (cs : List Step). KeepsBut [] p.book (done_all cs p).book) (sym is) (keeps-but_none p.book);
+        moves = λ n. ap (λ (cs : List Step). all_moves cs n) is ∙ one-put c.peer frame (c.peer == n) ∙ ap (λ (fs : List (ℕ × List ℕ)). slot_moves fs [] n) (sym puts);
         ids = ap (λ (cs : List Step). ids_in (done_all cs p).requests) is ∙ sym (append-nil (ids_in p.requests)) ∙ ap (λ (o : Option ℕ). lists.without o (ids_in p.requests) ++ []) (sym ends);
         fresh = tt;
         lent = None;
@@ -109,7 +105,6 @@ module _ (p : Parts) (sound : Sound p) (at : Local) (i : ℕ) (there : place_at 
           slots = s ∷ [];
           returned = ap (λ (o : Option Item). option_to_list o) (sym oldest-there) ∙ returned-agrees (state_of p) at.node (scalar_at at.port bits);
           moves = λ n. ap (λ (cs : List Step). all_moves cs n) steps ∙ one-gave s (s.peer == n);
-          stays = subst (λ (cs : List Step). KeepsBut (s ∷ []) p.book (done_all cs p).book) (sym steps) (keeps-away p.book s);
           ids = ap (λ (cs : List Step). ids_in (done_all cs p).requests) steps ∙ sym (append-nil (ids_in p.requests));
           fresh = tt;
           lent = None;

@@ -21,15 +21,14 @@ use Rattle.domain_parts.specs.LaneSeen.{LaneSeen}
 use Rattle.domain_parts.specs.declared.endpoints.Endpoint.{Endpoint}
 use Rattle.domain_parts.specs.declared.peer.Peer.{Peer}
 use Rattle.domain_parts.specs.declared.requests.Waiters.TheVariants as waiters
-use Rattle.domain_parts.specs.AllMoved.{buffers_of, giving}
-use Rattle.domain_parts.specs.CallSteps.{Means, call_steps, drops, if_some}
+use Rattle.domain_parts.specs.AllMoved.{giving}
+use Rattle.domain_parts.specs.CallSteps.{Means, buffers_of, call_steps, drops, if_some}
 use Rattle.domain_parts.specs.InBook.{endpoints_in}
 use Rattle.domain_parts.specs.LaneMoves.{LaneMove, receiver}
 use Rattle.domain_parts.specs.Parts.{Parts, Sound, plain, state_of}
 use Rattle.domain_parts.specs.Peers.{state_in}
 use Rattle.domain_parts.specs.Records.{slots_at, with_oldest_taken, waiting_in}
 use Rattle.domain_parts.specs.Steps.{Step, all_moves, done, done_all, endpoint_gone, oldest_dropped, step_moves}
-use Rattle.domain_parts.specs.Stores.{KeepsBut}
 use Rattle.domain_parts.proofs.CallsAgree.{delete-agrees, returned-agrees}
 use Rattle.domain_parts.proofs.StateFits.{ends-of}
 use Rattle.domain_parts.proofs.Completing.{ids-all, requests-ended}
@@ -39,7 +38,6 @@ use Rattle.domain_parts.proofs.Receiving.{given-state}
 use Rattle.domain_parts.proofs.Removing.{deleted-is, gone-address, gone-items, the}
 use Rattle.domain_parts.proofs.Steps.{drops-place, first-there, oldest_dropped-keeps, oldest_dropped-left, oldest_dropped-out}
 use Rattle.domain_parts.proofs.Stepping.{Any, done-append, gives-seen, quiet-peers}
-use Rattle.domain_parts.proofs.Storing.{keeps-away, keeps-but_none}
 use Rattle.domain_parts.proofs.TiedStates.{ended-state}
 
 -- ---- one is dropped
@@ -58,13 +56,6 @@ same-address : (i : ℕ) (es : List Endpoint) → option_map (λ (e : Endpoint).
 same-address i [] = refl
 same-address zero (e ∷ es) = refl
 same-address (suc i) (e ∷ es) = same-address i es
-
--- buffers that are given back one after the other
-keeps-then : (s : Slot) (ss : List Slot) (a b c : Book) → KeepsBut (s ∷ []) a b → KeepsBut ss b c → KeepsBut (s ∷ ss) a c
-keeps-then s ss a b c first then t is other =
-    let one = first t is (λ among. other (Contains-append_left (s ∷ []) ss t among)) in
-    let rest = then t one.held (λ among. other (Contains-append_right (s ∷ []) ss t among)) in
-    record { held = rest.held; item = rest.item ∙ one.item }
 
 pub one-dropped : (p : Parts) (sound : Sound p) (i : ℕ) (s : Slot) → Some s ≡ option_map (λ (w : Waiting). w.slot) (oldest (waiting_in (slice_get p.records.endpoints i))) → state_of (done (oldest_dropped i s) p) ≡ record (state_of p) { endpoints = changed_at without_first i (state_of p).endpoints }
 one-dropped p sound i s first =
@@ -85,12 +76,11 @@ pub record IsLeft (p p' : Parts) (i : ℕ) (ss : List Slot) : Type 0 where
   pub others : state_of p' ≡ record (state_of p) { endpoints = (state_of p').endpoints }
   pub left : without_at i (state_of p').endpoints ≡ without_at i (state_of p).endpoints
   pub address : option_map (λ (e : Endpoint). e.address) (slice_get p'.records.endpoints i) ≡ option_map (λ (e : Endpoint). e.address) (slice_get p.records.endpoints i)
-  pub stays : KeepsBut ss p.book p'.book
   pub requests : p'.requests ≡ p.requests
   pub lent : p'.records.lent ≡ p.records.lent
 
 pub all-left : (p : Parts) → Sound p → (i : ℕ) (ss : List Slot) → slots_at p.records i ≡ ss → IsLeft p (done_all (drops i ss) p) i ss
-all-left p sound i [] is = record { sound = sound; none = is; dropped = λ f same. refl; others = refl; left = refl; address = refl; stays = keeps-but_none p.book; requests = refl; lent = refl }
+all-left p sound i [] is = record { sound = sound; none = is; dropped = λ f same. refl; others = refl; left = refl; address = refl; requests = refl; lent = refl }
 all-left p sound i (s ∷ ss) is =
     let first = first-there p i s ss is in
     let p1 = done (oldest_dropped i s) p in
@@ -104,7 +94,6 @@ all-left p sound i (s ∷ ss) is =
       others = rest.others ∙ ap (λ (x : DomainState). record x { endpoints = (state_of (done_all (drops i ss) p1)).endpoints }) others;
       left = rest.left ∙ ap (without_at i) one ∙ gone-removed i (state_of p).endpoints;
       address = rest.address ∙ same-address i p.records.endpoints;
-      stays = keeps-then s ss p.book p1.book (done_all (drops i ss) p1).book (keeps-away p.book s) rest.stays;
       requests = rest.requests;
       lent = rest.lent;
     }
@@ -187,7 +176,6 @@ module _ (p : Parts) (sound : Sound p) (at : Local) (i : ℕ) (there : place_at 
     slots = ss;
     returned = gone-items plain p.book p.records p.requests p.table p.peers at i sound there ∙ returned-agrees (state_of p) at.node (delete_at at.port);
     moves = λ n. ap (λ (cs : List Step). all_moves cs n) (sym steps-are) ∙ drops-moves i ss (endpoint_gone i at) n refl;
-    stays = subst (λ (x : Parts). KeepsBut ss p.book x.book) all-done all.stays;
     ids = ap (λ (x : Parts). ids_in x.requests) (sym all-done) ∙ ids-all (waiters.Receives at) (complete.Ended EndpInvalid) p'.requests.standing ∙ ap ids_in all.requests ∙ sym (append-nil (ids_in p.requests));
     fresh = tt;
     lent = None;

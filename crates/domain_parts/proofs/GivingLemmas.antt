@@ -17,7 +17,7 @@ use Rattle.endpoint_table.specs.Table as endpoint_table
 use Rattle.domain_parts.specs.LaneSeen.{LaneSeen}
 use Rattle.domain_parts.specs.declared.peer.Peer.{Peer}
 use Rattle.domain_parts.specs.LaneMoves.{LaneMove, receiver}
-use Rattle.domain_parts.specs.AllMoved.{AllMoved, buffers_of, call_moves, ends_of, giving, moves_at, numbers_of}
+use Rattle.domain_parts.specs.AllMoved.{AllMoved, ends_of, giving, numbers_of}
 use Rattle.domain_parts.specs.GivingBack.{GivesBack, IsOutAt}
 use Rattle.domain_parts.specs.Peers.{peer_in, peers_in}
 use Rattle.domain_parts.specs.declared.endpoints.Endpoint.{Endpoint}
@@ -64,47 +64,7 @@ number-there P (z ∷ ps) (suc i) p all there = number-there P ps i p all.1 ther
 apart-below : (m n : ℕ) → m < n → (m == n) ≡ false
 apart-below m n lt = grind arith
 
--- ---- the moves of one slot
-
-pub no-move : (s : Slot) (n : ℕ) → (s.peer == n) ≡ false → moves_at [] (s ∷ []) n ≡ []
-no-move s n is = ap (λ (b : Bool). giving (map (λ (x : Slot). x.buffer) (cond b (s ∷ []) []))) is
-
-none-after : (s : Slot) (ns : List ℕ) → AllByRecursion (λ m. s.peer < m) ns → AllByRecursion (λ m. moves_at [] (s ∷ []) m ≡ []) ns
-none-after s [] all = tt
-none-after s (n ∷ ns) all = (no-move s n (apart-below s.peer n all.0), none-after s ns all.1)
-
--- slots after slots are one list of slots
-moves-then : (xs ys : List Slot) (n : ℕ) → moves_at [] (xs ++ ys) n ≡ moves_at [] xs n ++ moves_at [] ys n
-moves-then xs ys n =
-    ap (λ (ss : List Slot). giving (map (λ (s : Slot). s.buffer) ss)) (filter-append (λ (s : Slot). s.peer == n) xs ys)
-    ∙ ap giving (map-append (λ (s : Slot). s.buffer) (filter (λ (s : Slot). s.peer == n) xs) (filter (λ (s : Slot). s.peer == n) ys))
-    ∙ map-append (λ (k : ℕ). receiver (Gave k)) (buffers_of n xs) (buffers_of n ys)
-
--- ---- the moves at all ends
-
 module _ {L : Type 0} (M : L → List LaneMove → L → Type 0) where
-  -- where no peer has a move, all ends stay
-  pub all-stay : ((l : L) → M l [] l) → (ss : List Slot) (ps : List (Peer L)) → AllByRecursion (λ n. moves_at [] ss n ≡ []) (numbers_of ps) → AllMoved M (ends_of ps) (call_moves [] ss (numbers_of ps)) (ends_of ps)
-  all-stay m-none ss [] all = tt
-  all-stay m-none ss (p ∷ ps) all = (subst (λ (ms : List LaneMove). M p.ends ms p.ends) (sym all.0) (m-none p.ends), all-stay m-none ss ps all.1)
-
-  -- no slot is given back
-  pub none-given : ((l : L) → M l [] l) → (ps : List (Peer L)) → AllMoved M (ends_of ps) (call_moves [] [] (numbers_of ps)) (ends_of ps)
-  none-given m-none [] = tt
-  none-given m-none (p ∷ ps) = (m-none p.ends, none-given m-none ps)
-
-  -- and others after it
-  pub given-then : ((a b c : L) (xs ys : List LaneMove) → M a xs b → M b ys c → M a (xs ++ ys) c) → (xs ys : List Slot) (ns : List ℕ) (olds bs cs : List L) → AllMoved M olds (call_moves [] xs ns) bs → AllMoved M bs (call_moves [] ys ns) cs → AllMoved M olds (call_moves [] (xs ++ ys) ns) cs
-  given-then m-both xs ys [] [] [] [] first then = tt
-  given-then m-both xs ys [] [] [] (c ∷ cs) first then = absurd then
-  given-then m-both xs ys [] [] (b ∷ bs) cs first then = absurd first
-  given-then m-both xs ys [] (a ∷ olds) bs cs first then = absurd first
-  given-then m-both xs ys (n ∷ ns) [] bs cs first then = absurd first
-  given-then m-both xs ys (n ∷ ns) (a ∷ olds) [] cs first then = absurd first
-  given-then m-both xs ys (n ∷ ns) (a ∷ olds) (b ∷ bs) [] first then = absurd then
-  given-then m-both xs ys (n ∷ ns) (a ∷ olds) (b ∷ bs) (c ∷ cs) first then =
-      (subst (λ (ms : List LaneMove). M a ms c) (sym (moves-then xs ys n)) (m-both a b c (moves_at [] xs n) (moves_at [] ys n) first.0 then.0), given-then m-both xs ys ns olds bs cs first.1 then.1)
-
   -- ---- the peers after a slot was given back
 
   module _ (v : L → LaneSeen) (s : Slot) (ps ps' : List (Peer L)) (gives : GivesBack M v s ps ps') where

@@ -30,7 +30,6 @@ use Rattle.domain_parts.specs.AllMoved.{numbers_of}
 use Rattle.domain_parts.specs.Records.{Records, all_waiting, lent_slots, with_last_lent}
 use Rattle.domain_parts.specs.Sound.{ArePeers, AreSound, out_at}
 use Rattle.domain_parts.specs.Steps.{next_lent, with_lent_at}
-use Rattle.domain_parts.specs.Stores.{KeepsBut}
 use Rattle.domain_parts.proofs.Books.{each-slot, kept-there}
 use Rattle.domain_parts.proofs.GivingLemmas.{All-each, InPlacesAt, SameEndpoints, same-tied}
 use Rattle.domain_parts.proofs.Leaving.{each-lent}
@@ -126,10 +125,6 @@ module _ (b : Book) (s : Slot) (k : Kept) (is : queued_at b s ≡ Some k) where
       ∙ ap (λ (n : ℕ). one_if (not (w.priority == n)) + count_by (is_misplaced b') ws) (priority-lent w.slot)
       ∙ ap (λ (n : ℕ). one_if (is_misplaced b w) + n) (misplaced-lent ws)
       ∙ sym (count-cons (is_misplaced b) w ws)
-
-  -- all that is held stays so
-  pub keeps-lent : KeepsBut [] b b'
-  keeps-lent t held other = record { held = kept-still s b k is t ∙ held; item = ap unnamed_item (numbered_at-lent t) }
 
   -- it is lent under its id
   abbrev id : PacketId

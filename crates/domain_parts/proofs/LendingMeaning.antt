@@ -42,7 +42,6 @@ use Rattle.domain_parts.specs.Parts.{Parts, Sound, plain, state_of}
 use Rattle.domain_parts.specs.Peers.{state_in}
 use Rattle.domain_parts.specs.Records.{Records, lent_slots, waiting_in, with_last_lent, with_oldest_taken_at, all_waiting, with_oldest_taken}
 use Rattle.domain_parts.specs.Steps.{Step, all_moves, done, done_all, next_lent, oldest_lent, packet_begun, with_last, with_lent_at, request_begun, packet_ended, step_moves, without_at}
-use Rattle.domain_parts.specs.Stores.{KeepsBut}
 use Rattle.domain_parts.proofs.Asking.{asked-state}
 use Rattle.domain_parts.proofs.Beginning.{last-ids, last-more, pending-same}
 use Rattle.domain_parts.proofs.CallsAgree.{at-live, there_at}
@@ -51,12 +50,11 @@ use Rattle.domain_parts.proofs.DataMeaning.{oldest-there, no-oldest}
 use Rattle.domain_parts.proofs.Deleting.{endpoints-oldest, oldest-fewer, oldest-more, oldest-queued}
 use Rattle.domain_parts.proofs.Ending.{ids_in}
 use Rattle.domain_parts.proofs.GivingLemmas.{oldest-same, sound-moved, same-endpoints}
-use Rattle.domain_parts.proofs.Lending.{keeps-lent, lent-book, lent-sound, lent-state, packet-new, packet_at_place_in}
+use Rattle.domain_parts.proofs.Lending.{lent-book, lent-sound, lent-state, packet-new, packet_at_place_in}
 use Rattle.domain_parts.proofs.Placed.{queued-not_lent, stands-of, HasMore}
 use Rattle.domain_parts.proofs.Slots.{handed-has, length-more}
 use Rattle.domain_parts.proofs.StateFits.{ends-of}
 use Rattle.domain_parts.proofs.Stepping.{quiet-peers}
-use Rattle.domain_parts.proofs.Storing.{keeps-but_none}
 
 pub some-of : {X : Type 0} (o : Option X) → is_some o ≡ true → (x : X) × (o ≡ Some x)
 some-of None is = absurd cc
@@ -162,7 +160,6 @@ module _ (p : Parts) (sound : Sound p) (i : ℕ) (s : Slot) (first : Some s ≡ 
           slots = [];
           returned = refl;
           moves = λ n. ap (λ (cs : List Step). all_moves cs n) steps;
-          stays = subst (λ (cs : List Step). KeepsBut [] p.book (done_all cs p).book) (sym steps) (subst (λ (b : Book). KeepsBut [] p.book b) (sym (lent-book p.book s k its-kept.1)) (keeps-lent p.book s k its-kept.1));
           ids = ap (λ (cs : List Step). ids_in (done_all cs p).requests) steps ∙ sym (append-nil (ids_in p.requests));
           fresh = tt;
           lent = Some id;
@@ -209,7 +206,6 @@ module _ (p : Parts) (sound : Sound p) (i : ℕ) (s : Slot) (first : Some s ≡ 
             slots = [];
             returned = refl;
             moves = λ n. ap (λ (cs : List Step). all_moves cs n) steps;
-            stays = subst (λ (cs : List Step). KeepsBut [] p.book (done_all cs p).book) (sym steps) (keeps-but_none p.book);
             ids = ap (λ (cs : List Step). ids_in (done_all cs p).requests) steps ∙ last-ids p.requests rid (ask.Packet at) (Some (complete.Packet s));
             fresh = fresh;
             lent = None;
@@ -263,7 +259,6 @@ module _ (p : Parts) (sound : Sound p) (at : Local) (i : ℕ) (there : place_at 
         slots = [];
         returned = refl;
         moves = λ n. ap (λ (cs : List Step). all_moves cs n) steps;
-        stays = subst (λ (cs : List Step). KeepsBut [] p.book (done_all cs p).book) (sym steps) (keeps-but_none p.book);
         ids = ap (λ (cs : List Step). ids_in (done_all cs p).requests) steps ∙ last-ids p.requests rid (ask.Packet at) None;
         fresh = fresh;
         lent = None;
@@ -314,7 +309,6 @@ module _ (p : Parts) (sound : Sound p) (place : Option ℕ) (s : Slot) (k : Kept
           slots = [];
           returned = sym (ap held_by there);
           moves = λ n. ap (λ (c : Step). step_moves c n) held;
-          stays = subst (λ (c : Step). KeepsBut [] p.book (done c p).book) (sym held) (subst (λ (b : Book). KeepsBut [] p.book b) (sym (lent-book p.book s k is)) (keeps-lent p.book s k is));
           ids = ap (λ (c : Step). ids_in (done c p).requests) held ∙ left-ids p place;
           fresh = tt;
           lent = Some tested_id;

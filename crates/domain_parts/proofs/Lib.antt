@@ -1,7 +1,6 @@
 pub mod Books
 pub mod Placed
 pub mod Slots
-pub mod Storing
 pub mod Leaving
 pub mod Lending
 pub mod LendingMeaning

@@ -31,9 +31,9 @@ use Rattle.domain_parts.specs.LaneSeen.{LaneSeen}
 use Rattle.domain_parts.specs.declared.endpoints.Endpoint.{Endpoint}
 use Rattle.domain_parts.specs.declared.peer.Peer.{Peer}
 use Rattle.domain_parts.specs.declared.requests.Waiters.TheVariants as waiters
-use Rattle.domain_parts.specs.AllMoved.{giving, moves_at}
+use Rattle.domain_parts.specs.AllMoved.{giving}
 use Rattle.domain_parts.specs.Calls.{IsFresh}
-use Rattle.domain_parts.specs.CallSteps.{Means, best_slot, call_steps, ending, if_some, putting_all, receiving, how_held}
+use Rattle.domain_parts.specs.CallSteps.{slot_moves, Means, best_slot, call_steps, ending, if_some, putting_all, receiving, how_held}
 use Rattle.domain_parts.specs.DomainView.{place_of_id}
 use Rattle.domain_parts.specs.GivingBack.{IsOutAt}
 use Rattle.domain_parts.specs.InBook.{endpoints_in, numbered_at, item_in, outcome_in, request_in}
@@ -43,7 +43,6 @@ use Rattle.domain_parts.specs.Parts.{Parts, Sound, plain, state_of}
 use Rattle.domain_parts.specs.Peers.{state_in}
 use Rattle.domain_parts.specs.Records.{Records, waiting_in, with_best_taken_at, with_record}
 use Rattle.domain_parts.specs.Steps.{Step, all_moves, done, done_all, message_ended, request_ended, step_moves, with_last, without_at}
-use Rattle.domain_parts.specs.Stores.{KeepsBut}
 use Rattle.domain_parts.specs.VisitMoves.{putting}
 use Rattle.domain_parts.proofs.Asking.{asked-state}
 use Rattle.domain_parts.proofs.CallsAgree.{create-agrees, raw-agrees, receive-agrees, request-agrees, returned-agrees, send-agrees}
@@ -58,7 +57,6 @@ use Rattle.domain_parts.proofs.Receives.{gone-at, map-without, place-of_id}
 use Rattle.domain_parts.proofs.Receiving.{begun-state, best-is, best-item, given-state}
 use Rattle.domain_parts.proofs.Steps.{best_dropped-is, best_dropped-steps, frame_put-is}
 use Rattle.domain_parts.proofs.Stepping.{Any, gives-seen, quiet-peers}
-use Rattle.domain_parts.proofs.Storing.{keeps-away, keeps-but_none}
 use Rattle.domain_parts.proofs.Tables.{taken-none}
 use Rattle.domain_parts.proofs.TiedStates.{made-state}
 use Rattle.domain_parts.proofs.Waits.{queue-there}
@@ -79,8 +77,7 @@ send-means p sound node port to priority bytes frame i there one puts = record {
   state = ap (λ (ps : List (ℕ × List ℕ)). state_of (done_all (putting_all ps) p)) puts ∙ (frame_put-is p to.domain frame sound i there ∙ send-agrees (state_of p) node port to priority bytes one);
   slots = [];
   returned = refl;
-  moves = λ n. ap (λ (ps : List (ℕ × List ℕ)). all_moves (putting_all ps) n) puts ∙ one-put to.domain frame (to.domain == n) ∙ ap (λ (ps : List (ℕ × List ℕ)). moves_at ps [] n) (sym puts);
-  stays = subst (λ (ps : List (ℕ × List ℕ)). KeepsBut [] p.book (done_all (putting_all ps) p).book) (sym puts) (keeps-but_none p.book);
+  moves = λ n. ap (λ (ps : List (ℕ × List ℕ)). all_moves (putting_all ps) n) puts ∙ one-put to.domain frame (to.domain == n) ∙ ap (λ (ps : List (ℕ × List ℕ)). slot_moves ps [] n) (sym puts);
   ids = ap (λ (ps : List (ℕ × List ℕ)). ids_in (done_all (putting_all ps) p).requests) puts ∙ sym (append-nil (ids_in p.requests));
   fresh = tt;
   lent = None;
@@ -96,7 +93,6 @@ raw-means p sound node to bytes i there = record {
   slots = [];
   returned = refl;
   moves = λ n. one-put to bytes (to == n);
-  stays = λ slot held other. record { held = held; item = refl };
   ids = sym (append-nil (ids_in p.requests));
   fresh = tt;
   lent = None;
@@ -115,7 +111,6 @@ module _ (p : Parts) (sound : Sound p) (i : ℕ) (w : Waiting) (is : best (λ (x
         slots = w.slot ∷ [];
         returned = ap (λ (y : Item). y ∷ []) (best-item plain p.book p.records p.requests p.table p.peers sound i w is) ∙ ap (λ (o : Option Item). option_to_list o) (sym (best-is plain p.book p.records p.requests p.table p.peers sound i w is at (sym there))) ∙ returned-agrees (state_of p) at.node (receive_at at.port max);
         moves = λ n. ap (λ (cs : List Step). all_moves cs n) (sym steps) ∙ one-gave w.slot (w.slot.peer == n);
-        stays = subst (λ (cs : List Step). KeepsBut (w.slot ∷ []) p.book (done_all cs p).book) steps (keeps-away p.book w.slot);
         ids = ap (λ (cs : List Step). ids_in (done_all cs p).requests) (sym steps) ∙ sym (append-nil (ids_in p.requests));
         fresh = tt;
         lent = None;
@@ -131,7 +126,6 @@ available-means p node port = record {
   slots = [];
   returned = refl;
   moves = λ n. refl;
-  stays = λ slot held other. record { held = held; item = refl };
   ids = sym (append-nil (ids_in p.requests));
   fresh = tt;
   lent = None;
@@ -150,7 +144,6 @@ create-means p sound at =
       slots = [];
       returned = refl;
       moves = λ n. refl;
-      stays = λ slot held other. record { held = held; item = refl };
       ids = ids-all who how p.requests.standing ∙ sym (append-nil (ids_in p.requests));
       fresh = tt;
       lent = None;
@@ -175,7 +168,6 @@ lookup-means p name id fresh =
       slots = [];
       returned = refl;
       moves = λ n. refl;
-      stays = λ slot held other. record { held = held; item = refl };
       ids = last-ids p.requests id (ask.Lookup name) how;
       fresh = fresh;
       lent = None;
@@ -206,7 +198,6 @@ module _ (p : Parts) (sound : Sound p) (i : ℕ) (id : RequestId) (at : Local) (
         slots = [];
         returned = refl;
         moves = λ n. ap (λ (cs : List Step). all_moves cs n) (sym steps);
-        stays = subst (λ (cs : List Step). KeepsBut [] p.book (done_all cs p).book) steps (keeps-but_none p.book);
         ids = ap (λ (cs : List Step). ids_in (done_all cs p).requests) (sym steps) ∙ last-ids p.requests id (ask.Message at max) how;
         fresh = fresh;
         lent = None;
@@ -230,7 +221,6 @@ module _ (p : Parts) (sound : Sound p) (i : ℕ) (id : RequestId) (at : Local) (
         slots = [];
         returned = refl;
         moves = λ n. ap (λ (cs : List Step). all_moves cs n) (sym steps);
-        stays = subst (λ (cs : List Step). KeepsBut [] p.book (done_all cs p).book) steps (keeps-but_none p.book);
         ids = ap (λ (cs : List Step). ids_in (done_all cs p).requests) (sym steps) ∙ last-ids p.requests id (ask.Message at max) None;
         fresh = fresh;
         lent = None;
@@ -288,7 +278,6 @@ module _ (p : Parts) (place : Option ℕ) where
     slots = [];
     returned = refl;
     moves = λ n. refl;
-    stays = keeps-but_none p.book;
     ids = left-ids;
     fresh = tt;
     lent = None;
@@ -305,7 +294,6 @@ module _ (p : Parts) (place : Option ℕ) where
         slots = [];
         returned = sym items;
         moves = λ n. ap (λ (c : Step). step_moves c n) (sym step);
-        stays = subst (λ (c : Step). KeepsBut [] p.book (done c p).book) step (keeps-but_none p.book);
         ids = ap (λ (c : Step). ids_in (done c p).requests) (sym step) ∙ left-ids;
         fresh = tt;
         lent = None;
@@ -326,7 +314,6 @@ module _ (p : Parts) (place : Option ℕ) where
           slots = s ∷ [];
           returned = sym items;
           moves = λ n. ap (λ (c : Step). step_moves c n) (sym step) ∙ one-gave s (s.peer == n);
-          stays = subst (λ (c : Step). KeepsBut (s ∷ []) p.book (done c p).book) step (keeps-away p.book s);
           ids = ap (λ (c : Step). ids_in (done c p).requests) (sym step) ∙ left-ids;
           fresh = tt;
           lent = None;

@@ -34,14 +34,12 @@ use Rattle.domain_parts.specs.Out.{Out}
 use Rattle.domain_parts.specs.InBook.{channel_in, channel_of, content_in, endpoints_in, held_by, numbered_at, item_in, outcome_in, packets_in, priority_in, priority_of, request_in, requests_in, source_in, table_in}
 use Rattle.domain_parts.specs.InRequests.{AreReceives, Receives, handed_by, handed_slots}
 use Rattle.domain_parts.specs.InPlaces.{AreInPlaces, AreInPlacesBut, EachInPlace, IsLentAs, KeepOthers, is_misplaced, one_if, slot_at, slots_of, times_in, times_waiting}
-use Rattle.domain_parts.specs.Stores.{Stores}
 use Rattle.domain_parts.specs.Verdicts.{framed_item, item_with}
 use Rattle.domain_parts.proofs.Handed.{packets-stay, requests-stay}
 use Rattle.domain_parts.proofs.Leaving.{each-lent}
 use Rattle.domain_parts.proofs.Placed.{HasMore, away-lent, enqueued, enqueued-other, is-away, kept-here, none-waits, stands-of}
 use Rattle.domain_parts.proofs.Receives.{complete-at, complete_now, each-complete, handed-more, ids-stay, keys-stay, length-stays, map-changed}
 use Rattle.domain_parts.proofs.Slots.{handed-has, length-more, misplaced-stay, slots, times-all, waiting-has}
-use Rattle.domain_parts.proofs.Storing.{keeps-held}
 use Rattle.domain_parts.proofs.Waits.{endpoints-more, endpoints-stay, waiting-less, waiting-more}
 
 -- ---- what a frame says lies in its buffer
@@ -158,13 +156,6 @@ module _ (r : Records) (q : Requests) (b b' : Book) (p : Out) (peer : ℕ) (s : 
 
   item-here : numbered_at (with_queued b s' k) s' ≡ framed_item (buffer.number ∷ []) peer frame size
   item-here = ap (λ (o : Option Kept). item_with (buffer.number ∷ []) peer (source_in o) (priority_in o) (channel_in o) (content_in o)) here ∙ item-is
-
-  -- the buffer holds the message
-  pub enqueued-stored : (fate : Fate) → framed_item (0 ∷ []) peer frame size ≡ item_of peer frame → Stores peer (buffer.number ∷ []) (taken frame fate ∷ []) b b'
-  enqueued-stored fate item = subst (λ (x : Book). Stores peer (buffer.number ∷ []) (taken frame fate ∷ []) b x) (sym book-is) (record {
-    stays = keeps-held b s' (Some k) away;
-    stored = (λ keeps. record { held = ap (λ (o : Option Kept). is_some o) here; item = ap unnamed_item item-here ∙ item }, tt);
-  })
 
   -- ---- into a queue
 

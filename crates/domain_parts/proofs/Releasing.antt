@@ -39,7 +39,6 @@ use Rattle.domain_parts.specs.Peers.{peers_in}
 use Rattle.domain_parts.specs.Records.{Records, all_waiting, lent_slots, without_lent_at}
 use Rattle.domain_parts.specs.Sound.{out_at}
 use Rattle.domain_parts.specs.Steps.{Step, all_moves, done, done_all, packet_released}
-use Rattle.domain_parts.specs.Stores.{KeepsBut}
 use Rattle.domain_parts.proofs.Ending.{ids_in}
 use Rattle.domain_parts.proofs.GivingLemmas.{given-peers, lends-out, sound-gave, All-at}
 use Rattle.domain_parts.proofs.Handed.{packets-stay, requests-stay}
@@ -49,7 +48,6 @@ use Rattle.domain_parts.proofs.Placed.{HasMore, lent-nowhere, released, released
 use Rattle.domain_parts.proofs.Receives.{map-without}
 use Rattle.domain_parts.proofs.Slots.{length-more, misplaced-stay, times-all}
 use Rattle.domain_parts.proofs.Stepping.{Any, gives-seen}
-use Rattle.domain_parts.proofs.Storing.{keeps-away}
 use Rattle.domain_parts.proofs.Waits.{endpoints-stay}
 
 -- the slots without one at a place
@@ -164,7 +162,6 @@ module _ (p : Parts) (sound : Sound p) (i : ℕ) (id : PacketId) (there : slice_
         slots = s ∷ [];
         returned = sym (ap item_lent released-packet);
         moves = λ n. ap (λ (cs : List Step). all_moves cs n) steps ∙ one-gave s (s.peer == n);
-        stays = subst (λ (cs : List Step). KeepsBut (s ∷ []) p.book (done_all cs p).book) (sym steps) (keeps-away p.book s);
         ids = ap (λ (cs : List Step). ids_in (done_all cs p).requests) steps ∙ sym (append-nil (ids_in p.requests));
         fresh = tt;
         lent = None;

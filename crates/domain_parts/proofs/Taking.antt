@@ -36,7 +36,6 @@ use Rattle.domain_parts.specs.Parts.{Holding, Parts, Sound, holding_in, parts_in
 use Rattle.domain_parts.specs.Records.{Records, all_waiting, with_waiting_at, lent_slots}
 use Rattle.domain_parts.specs.Sound.{out_at}
 use Rattle.domain_parts.specs.Steps.{Step, at_peer, changed_peer, done, done_all, frame_handed, frame_queued, frame_returned, moved_peer, step_moves}
-use Rattle.domain_parts.specs.Stores.{AreStored, KeepsHeld, Stores}
 use Rattle.domain_parts.specs.Verdicts.{Desk, Effect, Fits, IsHanded, IsQueued, IsReturned, Shows, desk, effect_changes, framed_item}
 use Rattle.domain_parts.specs.VisitMoves.{taking}
 use Rattle.domain_parts.proofs.ChangedPeers.{set-changed}
@@ -46,10 +45,9 @@ use Rattle.domain_parts.proofs.PeersAt.{Fit, find-place, outs-room}
 use Rattle.domain_parts.proofs.Placed.{is-away}
 use Rattle.domain_parts.proofs.Slots.{length-all}
 use Rattle.lane_end.proofs.CountLemmas.{length-apart}
-use Rattle.domain_parts.proofs.Queuing.{enqueued-stored, handed-ids}
+use Rattle.domain_parts.proofs.Queuing.{handed-ids}
 use Rattle.domain_parts.proofs.Stepping.{seen-set, set-is-map}
 use Rattle.domain_parts.proofs.Outs.{is-out}
-use Rattle.domain_parts.proofs.Storing.{Stores-returned, keeps-none}
 use Rattle.domain_parts.proofs.TurnMeaning.{frame_handed-is, frame_queued-is, frame_returned-is}
 use Rattle.domain_parts.proofs.TurnSteps.{but-one, frame_handed-keeps, frame_queued-keeps, frame_returned-keeps}
 use Rattle.domain_parts.proofs.Turning.{doing-by, peer-is, peers-are, seen-there}
@@ -122,17 +120,16 @@ module _ {L : Type 0} (M : L → List LaneMove → L → Type 0) (m-none : (l : 
 
     -- it is kept: its word, its changes, and the step that it is
     kept-doing : (c : Step) (fate : Fate) (happens : List Change) (b' : Book) (r' : Records) (q' : Requests) (names : Names) (rs : List Reply) (applies : Bool) → (step_moves c ≡ at_peer n (receiver (Took buffer.number frame) ∷ []))
-        → parts_in v b' r' q' t (took_ps names rs) ≡ done c old → row_from (state_of old) n (Some buffer.number) frame ≡ row applies fate happens → state_of (done c old) ≡ changed_all (state_of old) (frame_taken n None [] ∷ happens) → KeepsHeld b b' → ids_in (parts_in v b' r' q' t (took_ps names rs)) ≡ ids_in old → r'.lent ≡ r.lent
+        → parts_in v b' r' q' t (took_ps names rs) ≡ done c old → row_from (state_of old) n (Some buffer.number) frame ≡ row applies fate happens → state_of (done c old) ≡ changed_all (state_of old) (frame_taken n None [] ∷ happens) → ids_in (parts_in v b' r' q' t (took_ps names rs)) ≡ ids_in old → r'.lent ≡ r.lent
         → keeps_buffer fate ≡ true → Doing M (peer_at old i).number (takes (peer_at old i).number (Some buffer.number) frame fate ∷ []) (taking (buffer.number ∷ []) (taken frame fate ∷ [])) (holding_in v b r q t ps) (holding_in v b' r' q' t (took_ps names rs))
-    kept-doing c fate happens b' r' q' names rs applies moves after is means stays ids packets kept =
+    kept-doing c fate happens b' r' q' names rs applies moves after is means ids packets kept =
         subst (λ (ms : List LaneMove). Doing M (peer_at old i).number (takes (peer_at old i).number (Some buffer.number) frame fate ∷ []) ms (holding_in v b r q t ps) (holding_in v b' r' q' t (took_ps names rs)))
         (ap (λ (k : Bool). receiver (Took buffer.number frame) ∷ ((if k then [] else receiver (Gave buffer.number) ∷ []) ++ [])) (sym kept))
         (doing-by M m-none v b r q t ps sound i x there e (receiver (Took buffer.number frame) ∷ []) seen moved (c ∷ []) (λ k. takes k (Some buffer.number) frame fate ∷ []) (holding_in v b' r' q' t (took_ps names rs))
-        (λ k. ap (λ (f : ℕ → List LaneMove). f k) moves) after (ends-known ps i x e names rs) (ap (λ (z : Row). z.word) is, tt) (means ∙ ap (λ (z : Row). changed_all (state_of old) (frame_taken n None [] ∷ z.happens)) (sym is) ∙ ap (λ (x : Change). changed_all (state_of old) (x ∷ (row_from (state_of old) n (Some buffer.number) frame).happens)) (sym taken_so)) stays ids packets)
+        (λ k. ap (λ (f : ℕ → List LaneMove). f k) moves) after (ends-known ps i x e names rs) (ap (λ (z : Row). z.word) is, tt) (means ∙ ap (λ (z : Row). changed_all (state_of old) (frame_taken n None [] ∷ z.happens)) (sym is) ∙ ap (λ (x : Change). changed_all (state_of old) (x ∷ (row_from (state_of old) n (Some buffer.number) frame).happens)) (sym taken_so)) ids packets)
 
-    takes-one : (fate : Fate) (new : Holding L) → Doing M (peer_at old i).number (takes (peer_at old i).number (Some buffer.number) frame fate ∷ []) (taking (buffer.number ∷ []) (taken frame fate ∷ [])) (holding_in v b r q t ps) new → AreStored n (buffer.number ∷ []) (taken frame fate ∷ []) new.parts.book
-        → lines' ≡ lines ++ take_line n frame fate ∷ [] → Takes M i 1 (holding_in v b r q t ps) new lines lines'
-    takes-one fate new doing stored told =
+    takes-one : (fate : Fate) (new : Holding L) → Doing M (peer_at old i).number (takes (peer_at old i).number (Some buffer.number) frame fate ∷ []) (taking (buffer.number ∷ []) (taken frame fate ∷ [])) (holding_in v b r q t ps) new → lines' ≡ lines ++ take_line n frame fate ∷ [] → Takes M i 1 (holding_in v b r q t ps) new lines lines'
+    takes-one fate new doing told =
         let number = sym (ap (λ (z : Peer LaneSeen). z.number) (peer-is M m-none v b r q t ps sound i x there)) in
         record {
           takes = taken frame fate ∷ [];
@@ -140,14 +137,10 @@ module _ {L : Type 0} (M : L → List LaneMove → L → Type 0) (m-none : (l : 
           many = refl;
           each = refl;
           doing = doing;
-          stored = subst (λ (k : ℕ). AreStored k (buffer.number ∷ []) (taken frame fate ∷ []) new.parts.book) number stored;
           told = subst (λ (k : ℕ). lines' ≡ lines ++ take_line k frame fate ∷ []) number told;
         }
 
     module _ (size : ℕ) (fits : Fits frame size) (b' : Book) (book : b' ≡ with_queued b (slot_at n buffer.number) (queued_in buffer 24 size)) (names : Names) (same : names ≡ x.known) (rs : List Reply) (same_rs : rs ≡ x.replies) where
-      kept-stored : (fate : Fate) → Stores n (buffer.number ∷ []) (taken frame fate ∷ []) b b'
-      kept-stored fate = enqueued-stored r q b b' _ n (slot_at n buffer.number) buffer size len (but-one old sound i y at buffer.number apart-then) refl book fits.short fits.inside fate (fits.whole n)
-
       -- its message is queued
       module _ (j priority : ℕ) (is : IsQueued (state_of old) (row_from (state_of old) n (Some buffer.number) frame) (framed_item (buffer.number ∷ []) n frame size) j) (says : priority_of frame ≡ priority) (r' : Records) (q' : Requests) (records : r' ≡ with_waiting_at r j (waiting (slot_at n buffer.number) priority)) (requests : q' ≡ q) where
         queued-after : parts_in v b' r' q' t (took_ps names rs) ≡ done (frame_queued n buffer len size j priority) old
@@ -160,8 +153,8 @@ module _ {L : Type 0} (M : L → List LaneMove → L → Type 0) (m-none : (l : 
         queued-takes told =
             takes-one Queued (holding_in v b' r' q' t (took_ps names rs))
             (kept-doing (frame_queued n buffer len size j priority) Queued (item_queued is.destination (framed_item (buffer.number ∷ []) n frame size) ∷ []) b' r' q' names rs is.applies refl queued-after is.row_is
-            (frame_queued-is old sound i y at buffer len size apart-then fits.short fits.inside j priority is.destination says is.at) (kept-stored Queued).stays (ap (λ (z : Requests). map (λ c. c.id) z.standing) requests) (ap (λ (z : Records). z.lent) records) refl)
-            (kept-stored Queued).stored told
+            (frame_queued-is old sound i y at buffer len size apart-then fits.short fits.inside j priority is.destination says is.at) (ap (λ (z : Requests). map (λ c. c.id) z.standing) requests) (ap (λ (z : Records). z.lent) records) refl)
+            told
 
       -- it is handed to a request
       module _ (id : RequestId) (a : Ask) (is : IsHanded (state_of old) q (row_from (state_of old) n (Some buffer.number) frame) (framed_item (buffer.number ∷ []) n frame size) id a) (r' : Records) (q' : Requests) (records : r' ≡ r) (requests : q' ≡ with_complete q id (handed_by a (slot_at n buffer.number))) where
@@ -175,9 +168,9 @@ module _ {L : Type 0} (M : L → List LaneMove → L → Type 0) (m-none : (l : 
         handed-takes told =
             takes-one Handed (holding_in v b' r' q' t (took_ps names rs))
             (kept-doing (frame_handed n buffer len size id a) Handed (item_handed is.destination (framed_item (buffer.number ∷ []) n frame size) ∷ []) b' r' q' names rs is.applies refl handed-after is.row_is
-            (frame_handed-is old sound i y at buffer len size apart-then fits.short fits.inside id a is.destination is.endpoint is.pending is.named is.waits) (kept-stored Handed).stays
+            (frame_handed-is old sound i y at buffer len size apart-then fits.short fits.inside id a is.destination is.endpoint is.pending is.named is.waits)
             (handed-ids r q b b' _ n (slot_at n buffer.number) buffer size len (but-one old sound i y at buffer.number apart-then) refl book fits.short fits.inside q' id a sound.receives is.pending requests) (ap (λ (z : Records). z.lent) records) refl)
-            (kept-stored Handed).stored told
+            told
 
     -- it is given back
     pub given-out : Contains (v e).out buffer.number
@@ -246,6 +239,6 @@ module _ {L : Type 0} (M : L → List LaneMove → L → Type 0) (m-none : (l : 
           (subst (λ (ms : List LaneMove). Doing M (peer_at old i).number (takes (peer_at old i).number (Some buffer.number) frame fate ∷ []) ms (holding_in v b r q t ps) (holding_in v b d'.records d'.requests t back_ps))
           (ap (λ (k : Bool). receiver (Took buffer.number frame) ∷ ((if k then [] else receiver (Gave buffer.number) ∷ []) ++ [])) (sym is.returned))
           (doing-by M m-none v b r q t ps sound i x there e' both seen-both moved-both (frame_returned n buffer.number frame ∷ effect_steps n does) (λ k. takes k (Some buffer.number) frame fate ∷ []) (holding_in v b d'.records d'.requests t back_ps)
-          (effect-moves n does (frame_returned n buffer.number frame)) back-after (ends-known ps i x e' d'.names d'.replies) (ap (λ (z : Row). z.word) is.row_is, tt) back-state (keeps-none b)
+          (effect-moves n does (frame_returned n buffer.number frame)) back-after (ends-known ps i x e' d'.names d'.replies) (ap (λ (z : Row). z.word) is.row_is, tt) back-state
           (ap (λ (z : Desk). map (λ c. c.id) z.requests.standing) is.left ∙ effect-ids does q) (ap (λ (z : Desk). z.records.lent) is.left ∙ effect-lent does r)))
-          (Stores-returned n buffer.number frame fate b is.returned).stored told
+          told

@@ -21,12 +21,10 @@ use Rattle.domain_parts.specs.LaneSeen.{LaneSeen, after_move, after_moves}
 use Rattle.domain_parts.specs.Parts.{Holding, Parts, Sound, holding_in, nobody, parts_in, peer_at, peer_seen, peers_seen, plain, state_of}
 use Rattle.domain_parts.specs.Records.{Records}
 use Rattle.domain_parts.specs.Steps.{Did, Step, all_moves, at_peer, done, done_all, changed_peer, moved_peer, names_told, reply_owed, reply_put, step_moves, with_names, with_reply, with_reply_put}
-use Rattle.domain_parts.specs.Stores.{KeepsHeld}
 use Rattle.domain_parts.proofs.CountsFrom.{both-are, lent-are, lent-is, queued-is}
 use Rattle.domain_parts.proofs.Outs.{held-are}
 use Rattle.domain_parts.proofs.PeerPlaces.{All-at, All-from}
 use Rattle.domain_parts.proofs.Stepping.{did-then, done-numbers, moves-append, one-moved, one-seen}
-use Rattle.domain_parts.proofs.Storing.{keeps-both, keeps-none}
 use Rattle.domain_parts.proofs.Tables.{slice_get-read}
 use Rattle.board_model.proofs.DeedJoins.{after-join}
 
@@ -52,7 +50,7 @@ at-none d n = by (d == n)
 
 module _ {L : Type 0} (M : L → List LaneMove → L → Type 0) where
   pub doing-none : (d : ℕ) (h : Holding L) → Rests M h → Doing M d [] [] h h
-  doing-none d h rests = record { steps = []; did = record { parts = refl; moved = rests }; moves_are = at-none d; may = tt; state = refl; stays = keeps-none h.parts.book; ids = refl; packets = refl }
+  doing-none d h rests = record { steps = []; did = record { parts = refl; moved = rests }; moves_are = at-none d; may = tt; state = refl; ids = refl; packets = refl }
 
   rests_by : ((l : L) → M l [] l) → (f : ℕ → List LaneMove) (ns : List ℕ) (xs ys : List L) → AllMoved M xs (map f ns) ys → AllMoved M ys (map (λ n. []) ns) ys
   rests_by none f [] [] [] moved = tt
@@ -74,7 +72,6 @@ module _ {L : Type 0} (M : L → List LaneMove → L → Type 0) where
     moves_are = λ n. moves-append first.steps then.steps n ∙ ap (λ zs. zs ++ all_moves then.steps n) (first.moves_are n) ∙ ap (λ zs. at_peer d ms n ++ zs) (then.moves_are n) ∙ sym (at-then d n ms ks);
     may = may-then (state_of a.parts) xs ys first.may (subst (λ s. AllMayDo s ys) first.state then.may);
     state = then.state ∙ ap (λ s. after_deeds s ys) first.state ∙ sym (after-join (state_of a.parts) xs ys);
-    stays = keeps-both a.parts.book b.parts.book c.parts.book first.stays then.stays;
     ids = then.ids ∙ first.ids;
     packets = then.packets ∙ first.packets;
   }
@@ -183,14 +180,14 @@ module _ {L : Type 0} (M : L → List LaneMove → L → Type 0) (m-none : (l : 
 
       -- steps with just these moves at the peer
       pub doing-by : (steps : List Step) (ds : ℕ → List Deed) (new : Holding L) → ((n : ℕ) → all_moves steps n ≡ at_peer x.number ms n) → new.parts ≡ done_all steps before → new.ends ≡ ends_of moved_ps → AllMayDo (state_of before) (ds x.number)
-          → state_of (done_all steps before) ≡ after_deeds (state_of before) (ds x.number) → KeepsHeld b new.parts.book → ids_in new.parts ≡ ids_in before → new.parts.records.lent ≡ r.lent → Doing M (peer_at before i).number (ds (peer_at before i).number) ms (holding_in v b r q t ps) new
-      doing-by steps ds new moves after ends may state stays ids packets =
+          → state_of (done_all steps before) ≡ after_deeds (state_of before) (ds x.number) → ids_in new.parts ≡ ids_in before → new.parts.records.lent ≡ r.lent → Doing M (peer_at before i).number (ds (peer_at before i).number) ms (holding_in v b r q t ps) new
+      doing-by steps ds new moves after ends may state ids packets =
           let did : Did M steps (holding_in v b r q t ps) new = record {
             parts = after;
             moved = subst (λ es. AllMoved M (ends_of ps) (map (all_moves steps) (numbers_of (peers_seen v ps))) es) (sym ends) (subst (λ zs. AllMoved M (ends_of ps) zs (ends_of moved_ps)) (sym (same_maps (all_moves steps) (at_peer x.number ms) moves (numbers_of (peers_seen v ps)))) ends-moved);
           } in
           subst (λ n. Doing M n (ds n) ms (holding_in v b r q t ps) new) (sym (ap (λ (y : Peer LaneSeen). y.number) peer-is))
-          (record { steps = steps; did = did; moves_are = moves; may = may; state = ap state_of after ∙ state; stays = stays; ids = ids; packets = packets })
+          (record { steps = steps; did = did; moves_are = moves; may = may; state = ap state_of after ∙ state; ids = ids; packets = packets })
 
 -- the peer that is read at a place is there
 pub there-read : {L : Type 0} (v : L → LaneSeen) (b : Book) (r : Records) (q : Requests) (t : endpoint_table.Table) (ps : List (Peer L)) (i : ℕ) (x : Peer L) → i < length (parts_in v b r q t ps).peers → x ≡ slice_index_or ps i x → slice_get ps i ≡ Some x

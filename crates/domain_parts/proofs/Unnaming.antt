@@ -17,7 +17,7 @@ use Rattle.board_model.proofs.RenamedCalls.{call-renamed, first-renamed, packet-
 use Rattle.board_model.proofs.RenamedChanges.{renamed-all}
 use Rattle.board_model.proofs.UnnamedDeeds.{all-unnamed, deeds-unnamed, visit-unnamed}
 use Rattle.buffer_book.specs.Book.{Book}
-use Rattle.domain_parts.specs.AllMoved.{buffers_of}
+use Rattle.domain_parts.specs.CallSteps.{buffers_of}
 use Rattle.domain_parts.specs.Calls.{brings_whole, gives_whole, place_ended, place_released, success_ends, success_releases}
 use Rattle.domain_parts.specs.InBook.{item_at, numbered_at}
 use Rattle.domain_parts.specs.NumberedDeeds.{number_in, numbered_deeds}
@@ -72,10 +72,6 @@ module _ (s : DomainState) (node : ℕ) (call : DomainCall) where
   released-unnamed = ap (λ o. unless_refused o None (success_releases call)) (refusal-renamed no_names s node call)
 
 -- ---- the names of what is given back
-
-pub items-unnamed : (b : Book) (slots : List Slot) → map (item_at b) slots ≡ map unnamed_item (map (numbered_at b) slots)
-items-unnamed b [] = refl
-items-unnamed b (s ∷ slots) = ap (λ (is : List Item). item_at b s ∷ is) (items-unnamed b slots)
 
 pub names-are : (b : Book) (peer : ℕ) (slots : List Slot) → buffers_of peer slots ≡ frames_from peer (map (numbered_at b) slots)
 names-are b peer [] = refl

@@ -21,12 +21,10 @@ use Rattle.domain_parts.specs.NumberedDeeds.{numbered_deeds, turn_deeds}
 use Rattle.domain_parts.specs.Parts.{Holding, Sound, plain, shown, state_of}
 use Rattle.domain_parts.specs.Sound.{AreRising}
 use Rattle.domain_parts.specs.Steps.{Did, Step, all_moves, at_peer}
-use Rattle.domain_parts.specs.Stores.{AreStored, KeepsHeld}
-use Rattle.domain_parts.specs.Turned.{AllStored, HaveNumbers, VisitsAll, MakesTurn}
+use Rattle.domain_parts.specs.Turned.{HaveNumbers, VisitsAll, MakesTurn}
 use Rattle.domain_parts.specs.VisitMoves.{visit_moves}
 use Rattle.domain_parts.proofs.PeerPlaces.{numbers-in}
 use Rattle.domain_parts.proofs.Stepping.{did-then, moves-append}
-use Rattle.domain_parts.proofs.Storing.{keeps-both, keeps-none, stay-stored}
 use Rattle.domain_parts.proofs.ToldTurns.{told-last, begun-last, turn-told, turn-begun}
 use Rattle.domain_parts.proofs.Turning.{did-numbers, did-rests, number-in}
 use Rattle.domain_parts.proofs.Unnaming.{visit-numbered}
@@ -52,12 +50,6 @@ have-last [] [] w ns all one = (one, tt)
 have-last (u ∷ vs) (ms ∷ nss) w ns all one = (all.0, have-last vs nss w ns all.1 one)
 have-last [] (ms ∷ nss) w ns all one = absurd all
 have-last (u ∷ vs) [] w ns all one = absurd all
-
-stored-last : (b b' : Book) (vs : List Visit) (nss : List (List ℕ)) (w : Visit) (ns : List ℕ) → KeepsHeld b b' → HaveNumbers vs nss → AllStored vs nss b → AreStored w.peer ns w.takes b' → AllStored (vs ++ w ∷ []) (nss ++ ns ∷ []) b'
-stored-last b b' [] [] w ns keeps have all one = (one, tt)
-stored-last b b' (u ∷ vs) (ms ∷ nss) w ns keeps have all one = (stay-stored u.peer ms u.takes b b' keeps all.0, stored-last b b' vs nss w ns keeps have.1 all.1 one)
-stored-last b b' [] (ms ∷ nss) w ns keeps have all one = absurd have
-stored-last b b' (u ∷ vs) [] w ns keeps have all one = absurd have
 
 -- ---- the moves of visits at the peer of a number
 
@@ -126,8 +118,6 @@ pub record SoFar {L : Type 0} (M : L → List LaneMove → L → Type 0) (old no
   pub steps : List Step
   pub did : Did M steps old now
   pub moves_are : (n : ℕ) → all_moves steps n ≡ moves_in visits numbers n
-  pub stays : KeepsHeld old.parts.book now.parts.book
-  pub stored : AllStored visits numbers now.parts.book
   pub ids : ids_in now.parts ≡ ids_in old.parts
   pub packets : now.parts.records.lent ≡ old.parts.records.lent
   pub told : lines' ≡ lines ++ told_of_all false visits
@@ -146,8 +136,6 @@ so-far-none M h lines rests = record {
   steps = [];
   did = record { parts = refl; moved = rests };
   moves_are = λ n. refl;
-  stays = keeps-none h.parts.book;
-  stored = tt;
   ids = refl;
   packets = refl;
   told = sym (append-nil lines);
@@ -180,8 +168,6 @@ module _ {L : Type 0} (M : L → List LaneMove → L → Type 0) (m-none : (l : 
         steps = so_far.steps ++ made.doing.steps;
         did = did-then M m-both so_far.steps made.doing.steps old now new so_far.did made.doing.did;
         moves_are = λ n. moves-append so_far.steps made.doing.steps n ∙ ap (λ zs. zs ++ all_moves made.doing.steps n) (so_far.moves_are n) ∙ ap (λ zs. moves_in vs so_far.numbers n ++ zs) (made.doing.moves_are n) ∙ sym (moves-last vs so_far.numbers w made.numbers n so_far.each);
-        stays = keeps-both old.parts.book now.parts.book new.parts.book so_far.stays made.doing.stays;
-        stored = stored-last now.parts.book new.parts.book vs so_far.numbers w made.numbers made.doing.stays so_far.each so_far.stored made.stored;
         ids = made.doing.ids ∙ so_far.ids;
         packets = made.doing.packets ∙ so_far.packets;
         told =
@@ -212,8 +198,6 @@ module _ {L : Type 0} (M : L → List LaneMove → L → Type 0) (m-none : (l : 
           numbered = so_far.numbered;
           each = so_far.each;
           moved = subst (λ zs. AllMoved M old.ends zs now.ends) (same_maps (all_moves so_far.steps) (moves_in so_far.visits so_far.numbers) so_far.moves_are ns ∙ turn-moves-are so_far.visits so_far.numbers ns so_far.each each sound.peers.rising) so_far.did.moved;
-          stays = so_far.stays;
-          stored = so_far.stored;
           ids = so_far.ids;
           packets = so_far.packets;
         };

@@ -25,12 +25,10 @@ use Rattle.domain_parts.specs.Owed.{put_lines}
 use Rattle.domain_parts.specs.Parts.{Holding, Sound, nobody, peer_at, plain, state_of}
 use Rattle.domain_parts.specs.Peers.{peer_in}
 use Rattle.domain_parts.specs.Sound.{IsSized}
-use Rattle.domain_parts.specs.Stores.{AreStored, Stores}
 use Rattle.domain_parts.specs.VisitMoves.{giving_back, putting, taking}
 use Rattle.domain_parts.proofs.Owing.{free-put}
 use Rattle.domain_parts.proofs.PeerPlaces.{All-at}
 use Rattle.domain_parts.proofs.PeersAt.{find-place}
-use Rattle.domain_parts.proofs.Storing.{Stores-more}
 use Rattle.domain_parts.proofs.ToldTurns.{none-in}
 use Rattle.domain_parts.proofs.Unnaming.{visit-may}
 use Rattle.domain_parts.proofs.Turning.{did-numbers, doing-ends, doing-none, doing-then, same-length, same-number, seen-then}
@@ -94,7 +92,7 @@ taken-shown (n ∷ ns) (t ∷ ts) l same =
 
 module _ {L : Type 0} (M : L → List LaneMove → L → Type 0) where
   pub Takes-none : (i : ℕ) (h : Holding L) (lines : List Line) → Rests M h → Takes M i 0 h h lines lines
-  Takes-none i h lines rests = record { takes = []; numbers = []; many = refl; each = refl; doing = doing-none M (peer_at h.parts i).number h rests; stored = tt; told = sym (append-nil lines) }
+  Takes-none i h lines rests = record { takes = []; numbers = []; many = refl; each = refl; doing = doing-none M (peer_at h.parts i).number h rests; told = sym (append-nil lines) }
 
   pub Takes-more : ((a b c : L) (xs ys : List LaneMove) → M a xs b → M b ys c → M a (xs ++ ys) c) → (i k : ℕ) (a b c : Holding L) (ls ls' ls'' : List Line) → Takes M i k a b ls ls' → Takes M i 1 b c ls' ls'' → Takes M i (k + 1) a c ls ls''
   Takes-more both i k a b c ls ls' ls'' so_far one =
@@ -111,12 +109,6 @@ module _ {L : Type 0} (M : L → List LaneMove → L → Type 0) where
       subst (λ (xs : List ℕ). Doing M peer (takes_named (number_in xs) peer (t ∷ [])) (taking xs (t ∷ [])) b c) n1.1
       (subst (λ (xs : List Taken). Doing M peer (takes_named (number_in one.numbers) peer xs) (taking one.numbers xs) b c) t1.1
       (subst (λ (m : ℕ). Doing M m (takes_named (number_in one.numbers) m one.takes) (taking one.numbers one.takes) b c) same_peer one.doing)) in
-      let stored : Stores peer (n ∷ []) (t ∷ []) b.parts.book c.parts.book = record {
-        stays = last.stays;
-        stored = subst (λ (xs : List ℕ). AreStored peer xs (t ∷ []) c.parts.book) n1.1
-            (subst (λ (xs : List Taken). AreStored peer one.numbers xs c.parts.book) t1.1
-            (subst (λ (m : ℕ). AreStored m one.numbers one.takes c.parts.book) same_peer one.stored));
-      } in
       let told : ls'' ≡ ls' ++ taken_line peer t ∷ [] = one.told ∙ ap (λ (m : ℕ). ls' ++ map (taken_line m) one.takes) same_peer ∙ ap (λ (xs : List Taken). ls' ++ map (taken_line peer) xs) t1.1 in
       record {
         takes = ts ++ t ∷ [];
@@ -126,7 +118,6 @@ module _ {L : Type 0} (M : L → List LaneMove → L → Type 0) where
         doing = subst (λ (ds : List Deed). Doing M peer ds (taking (ns ++ n ∷ []) (ts ++ t ∷ [])) a c) (sym (numbered_push peer ns ts n t same))
             (subst (λ (ms : List LaneMove). Doing M peer (takes_named (number_in ns) peer ts ++ takes_named (number_in (n ∷ [])) peer (t ∷ [])) ms a c) (sym (taking_push ns ts n t same))
             (doing-then M both peer (takes_named (number_in ns) peer ts) (takes_named (number_in (n ∷ [])) peer (t ∷ [])) (taking ns ts) (taking (n ∷ []) (t ∷ [])) a b c so_far.doing last));
-        stored = (Stores-more peer ns ts n t a.parts.book b.parts.book c.parts.book same (record { stays = so_far.doing.stays; stored = so_far.stored }) stored).stored;
         told = told
             ∙ ap (λ (xs : List Line). xs ++ taken_line peer t ∷ []) so_far.told
             ∙ append_assoc ls (map (taken_line peer) ts) (taken_line peer t ∷ [])
@@ -283,7 +274,6 @@ module _ {L : Type 0} (M : L → List LaneMove → L → Type 0) (m-both : (a b 
         };
         each = took.each ∙ sym took.many;
         doing = all;
-        stored = subst (λ (n : ℕ). AreStored n took.numbers took.takes e.parts.book) d_peer took.stored;
         told =
             told4
             ∙ ap (λ (zs : List Line). zs ++ last) (told3 ∙ ap (λ (zs : List Line). zs ++ look_lines begun2 (see_line peer) see) (told2 ∙ ap (λ (zs : List Line). zs ++ put_lines begun1 peer fs) told1))

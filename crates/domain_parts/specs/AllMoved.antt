@@ -1,9 +1,9 @@
 -- The moves that a domain makes at the ends towards all its peers.
 -- Source: docs/PROFILE.md, "A turn" and "Calls".
 use Rattle.std.specs.Prelude.{ℕ, List, [], ◌∷◌, ◌++◌, ◌==◌, map, filter}
-use Rattle.mc_base.specs.declared.request.Slot.{Slot}
 use Rattle.lane_end.specs.ReceiveMoves.{Gave}
 use Rattle.board_model.specs.Journal.{Visit}
+use Rattle.board_model.specs.State.{Item, frames_from}
 use Rattle.domain_parts.specs.declared.peer.Peer.{Peer}
 use Rattle.domain_parts.specs.LaneMoves.{LaneMove, receiver}
 use Rattle.domain_parts.specs.VisitMoves.{putting, visit_moves}
@@ -31,15 +31,14 @@ turn_moves (v ∷ vs) (ns ∷ numbers) = visit_moves v ns ∷ turn_moves vs numb
 abbrev pub giving : List ℕ → List LaneMove
 giving ns = map (λ n. receiver (Gave n)) ns
 
--- the moves of a call at a peer: the frames that it puts to it, and the buffers that it gives back to it
+-- the frames that a call puts to a peer
 abbrev pub frames_to : ℕ → List (ℕ × List ℕ) → List (List ℕ)
 frames_to peer puts = map (λ p. p.1) (filter (λ p. p.0 == peer) puts)
 
-abbrev pub buffers_of : ℕ → List Slot → List ℕ
-buffers_of peer slots = map (λ s. s.buffer) (filter (λ s. s.peer == peer) slots)
+-- the moves of a call at a peer: the frames that it puts to it, and the buffers of the items that it gives back to it, which are the names of
+-- their frames
+abbrev pub moves_at : List (ℕ × List ℕ) → List Item → ℕ → List LaneMove
+moves_at puts items peer = putting (frames_to peer puts) ++ giving (frames_from peer items)
 
-abbrev pub moves_at : List (ℕ × List ℕ) → List Slot → ℕ → List LaneMove
-moves_at puts slots peer = putting (frames_to peer puts) ++ giving (buffers_of peer slots)
-
-abbrev pub call_moves : List (ℕ × List ℕ) → List Slot → List ℕ → List (List LaneMove)
-call_moves puts slots peers = map (moves_at puts slots) peers
+abbrev pub call_moves : List (ℕ × List ℕ) → List Item → List ℕ → List (List LaneMove)
+call_moves puts items peers = map (moves_at puts items) peers

@@ -1,6 +1,6 @@
 -- The steps of each call, and what they mean for the domain's state.
 -- Source: docs/PROFILE.md, "Calls". The id of a new request, which no state tells, stands beside the call.
-use Rattle.std.specs.Prelude.{◌≡◌, ℕ, ◌+◌, List, [], ◌∷◌, ◌++◌, length, map, slice_get, Option, None, Some, option_and_then, option_map, option_to_list, IfSome}
+use Rattle.std.specs.Prelude.{◌≡◌, ℕ, ◌+◌, List, [], ◌∷◌, ◌++◌, length, map, filter, ◌==◌, slice_get, Option, None, Some, option_and_then, option_map, option_to_list, IfSome}
 use Rattle.mc_base.specs.Limits.{first_address}
 use Rattle.mc_base.specs.declared.channel.Side.{Side}
 use Rattle.mc_base.specs.declared.channel.Side.TheVariants.{Receiver, Sender}
@@ -29,14 +29,14 @@ use Rattle.request_set.specs.declared.ask.Ask.TheVariants as ask
 use Rattle.request_set.specs.declared.ask.Complete.{Complete}
 use Rattle.request_set.specs.declared.ask.Complete.TheVariants as complete
 use Rattle.request_set.specs.Requests.{Requests}
-use Rattle.domain_parts.specs.AllMoved.{AllMoved, moves_at, numbers_of}
+use Rattle.domain_parts.specs.AllMoved.{AllMoved, frames_to, giving, numbers_of}
 use Rattle.domain_parts.specs.Calls.{IsFresh, success_ends, success_releases}
 use Rattle.domain_parts.specs.InBook.{numbered_at}
 use Rattle.domain_parts.specs.LaneMoves.{LaneMove}
 use Rattle.domain_parts.specs.Parts.{Holding, Parts, state_of}
 use Rattle.domain_parts.specs.Records.{slots_at, waiting_in}
+use Rattle.domain_parts.specs.VisitMoves.{putting}
 use Rattle.domain_parts.specs.Steps.{Did, Step, all_moves, best_dropped, channel_given, channel_set, done_all, endpoint_gone, endpoint_made, frame_put, message_ended, next_lent, oldest_dropped, oldest_lent, packet_begun, packet_ended, packet_released, receive_begun, receives_ended, request_begun, request_ended}
-use Rattle.domain_parts.specs.Stores.{KeepsBut}
 
 -- steps that hang on what is there
 abbrev pub if_some : {A : Type 0} → Option A → (A → List Step) → List Step
@@ -137,14 +137,20 @@ call_steps p node (cancel_of place) given = request_ended place ∷ []
 call_steps p node (raw_to to bytes) given = putting_all (success_puts (state_of p) node (raw_to to bytes))
 call_steps p node other given = []
 
--- What the steps of a call's success mean: the state after them is the one to which its changes lead, the buffers that they give back held the items
--- that it returns, and each other buffer stays
+-- the moves of frames that are put to a peer, and of buffers that are given back to it
+abbrev pub buffers_of : ℕ → List Slot → List ℕ
+buffers_of peer slots = map (λ s. s.buffer) (filter (λ s. s.peer == peer) slots)
+
+abbrev pub slot_moves : List (ℕ × List ℕ) → List Slot → ℕ → List LaneMove
+slot_moves puts slots peer = putting (frames_to peer puts) ++ giving (buffers_of peer slots)
+
+-- What the steps of a call's success mean: the state after them is the one to which its changes lead, and the buffers that they give back
+-- held the items that it returns
 pub record Means (p : Parts) (node : ℕ) (call : DomainCall) (given : Option RequestId) : Type 0 where
   pub state : state_of (done_all (call_steps p node call given) p) ≡ changed_all (state_of p) (success_changes (state_of p) node call)
   pub slots : List Slot
   pub returned : map (numbered_at p.book) slots ≡ success_returned (state_of p) node call
-  pub moves : (n : ℕ) → all_moves (call_steps p node call given) n ≡ moves_at (success_puts (state_of p) node call) slots n
-  pub stays : KeepsBut slots p.book (done_all (call_steps p node call given) p).book
+  pub moves : (n : ℕ) → all_moves (call_steps p node call given) n ≡ slot_moves (success_puts (state_of p) node call) slots n
   pub ids : map (λ r. r.id) (done_all (call_steps p node call given) p).requests.standing ≡ without (success_ends (state_of p) call) (map (λ r. r.id) p.requests.standing) ++ option_to_list given
   pub fresh : IfSome given (IsFresh (map (λ r. r.id) p.requests.standing) (state_of p))
   pub lent : Option PacketId

@@ -12,20 +12,17 @@ use Rattle.mc_base.specs.declared.request.Done.TheVariants as done
 use Rattle.mc_base.specs.declared.request.Got.{Got}
 use Rattle.mc_base.specs.declared.request.PacketId.{PacketId}
 use Rattle.mc_base.specs.declared.request.RequestId.{RequestId}
-use Rattle.mc_base.specs.declared.request.Slot.{Slot}
 use Rattle.board_model.specs.DomainCall.{DomainCall, release_of, test_of, wait_for, cancel_of}
 use Rattle.board_model.specs.Journal.{Line, Visit, turned, noted_all, PlainResult, found_at, was_accepted, was_rejected, brought, ended_by, PlainAnswer, refuses, agrees, tells, gives, completes, connects}
 use Rattle.board_model.specs.Labels.{packet_given}
 use Rattle.board_model.specs.Lists.{without}
-use Rattle.board_model.specs.State.{DomainState, LentPacket, frames_from}
+use Rattle.board_model.specs.State.{DomainState, LentPacket}
 use Rattle.board_model.specs.Answer.{answer, first_complete, puts, refusal, unless_refused}
 use Rattle.board_model.specs.CallChanges as changes
 use Rattle.board_model.specs.Serial.{put_entry}
 use Rattle.domain_parts.specs.DomainView.{DomainView}
 use Rattle.domain_parts.specs.LaneMoves.{LaneMove}
-use Rattle.domain_parts.specs.InBook.{item_at}
-use Rattle.domain_parts.specs.Stores.{KeepsBut}
-use Rattle.domain_parts.specs.AllMoved.{AllMoved, buffers_of, call_moves}
+use Rattle.domain_parts.specs.AllMoved.{AllMoved, call_moves}
 use Rattle.domain_parts.specs.Turned.{Turns}
 
 -- the place of the request that success ends
@@ -54,17 +51,12 @@ pub record IsFresh (ids : List RequestId) (s : DomainState) (id : RequestId) : T
   pub serial : id.serial ≡ s.requests_given
 
 -- A call after its turn. Its answer and its effect are those of the state; at the ends towards each peer it makes the moves of the
--- frames that it puts there, and then those of the buffers that it gives back there, which held the items that it returns, and whose
--- numbers are the names of these items
+-- frames that it puts there, and then those of the buffers of the items that it gives back there
 pub record Does {L : Type 0} (Moved : L → List LaneMove → L → Type 0) (node : ℕ) (call : DomainCall) (old new : DomainView L) (answered : PlainAnswer) (given : Option RequestId) : Type 0 where
   pub answer : answered ≡ answer old.state node call
   pub state : new.state ≡ changes.effect old.state node call
   pub numbered : new.numbered ≡ changes.effect old.numbered node call
-  pub slots : List Slot
-  pub returned : map (item_at old.book) slots ≡ changes.returned old.state node call
-  pub named : (peer : ℕ) → buffers_of peer slots ≡ frames_from peer (changes.returned old.numbered node call)
-  pub moved : AllMoved Moved old.ends (call_moves (puts old.state node call) slots (map (λ p. p.number) old.state.peers)) new.ends
-  pub stays : KeepsBut slots old.book new.book
+  pub moved : AllMoved Moved old.ends (call_moves (puts old.state node call) (changes.returned old.numbered node call) (map (λ p. p.number) old.state.peers)) new.ends
   pub ids : new.ids ≡ without (place_ended old.state node call) old.ids ++ option_to_list given
   pub fresh : IfSome given (IsFresh old.ids old.state)
   -- the packet that it lends, which is the last of those that are lent

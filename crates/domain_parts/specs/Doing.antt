@@ -15,7 +15,6 @@ use Rattle.domain_parts.specs.Owed.{put_lines}
 use Rattle.domain_parts.specs.Peers.{peer_in}
 use Rattle.domain_parts.specs.Parts.{Holding, Parts, peer_at, plain, state_of}
 use Rattle.domain_parts.specs.Steps.{Did, Step, all_moves, at_peer}
-use Rattle.domain_parts.specs.Stores.{AreStored, KeepsHeld}
 use Rattle.domain_parts.specs.VisitMoves.{putting, taking, visit_moves}
 
 abbrev pub ids_in : Parts → List RequestId
@@ -27,7 +26,6 @@ pub record Doing {L : Type 0} (Moved : L → List LaneMove → L → Type 0) (pe
   pub moves_are : (n : ℕ) → all_moves steps n ≡ at_peer peer moves n
   pub may : AllMayDo (state_of old.parts) deeds
   pub state : state_of new.parts ≡ after_deeds (state_of old.parts) deeds
-  pub stays : KeepsHeld old.parts.book new.parts.book
   pub ids : ids_in new.parts ≡ ids_in old.parts
   pub packets : new.parts.records.lent ≡ old.parts.records.lent
 
@@ -38,7 +36,6 @@ pub record Takes {L : Type 0} (Moved : L → List LaneMove → L → Type 0) (pl
   pub many : length takes ≡ count
   pub each : length numbers ≡ count
   pub doing : Doing Moved (peer_at old.parts place).number (takes_named (number_in numbers) (peer_at old.parts place).number takes) (taking numbers takes) old new
-  pub stored : AreStored (peer_at old.parts place).number numbers takes new.parts.book
   pub told : lines' ≡ lines ++ map (taken_line (peer_at old.parts place).number) takes
 
 -- the frames that are owed to the peer at a place: announcements first, and then replies, the oldest first
@@ -66,6 +63,5 @@ pub record Visits {L : Type 0} (Moved : L → List LaneMove → L → Type 0) (p
   pub allowed : IsVisit (unnamed (state_of old.parts)) visit
   pub each : length numbers ≡ length visit.takes
   pub doing : Doing Moved visit.peer (numbered_deeds visit numbers) (visit_moves visit numbers) old new
-  pub stored : AreStored visit.peer numbers visit.takes new.parts.book
   pub told : lines' ≡ lines ++ told_of begun visit
   pub begins : begun' ≡ has_begun begun visit

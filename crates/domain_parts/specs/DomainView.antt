@@ -3,13 +3,11 @@
 use Rattle.std.specs.Prelude.{◌≡◌, ℕ, Bool, ◌&&◌, ◌==◌, List, position, Option}
 use Rattle.mc_base.specs.declared.request.PacketId.{PacketId}
 use Rattle.mc_base.specs.declared.request.RequestId.{RequestId}
-use Rattle.buffer_book.specs.Book.{Book}
 use Rattle.board_model.specs.State.{DomainState, LentPacket, packet_at_place}
 use Rattle.board_model.specs.Unnamed.{unnamed}
 
 -- the state, in which no frame has a name of its own; the same state with each frame named by the number of its buffer; the ends towards each peer, in the
--- order of the state's peers; the ids of the requests that stand and of the packets that are lent, in their orders in the state; and the
--- book of the buffers that are held
+-- order of the state's peers; and the ids of the requests that stand and of the packets that are lent, in their orders in the state
 pub record DomainView (L : Type 0) : Type 0 where
   pub state : DomainState
   pub numbered : DomainState
@@ -17,7 +15,6 @@ pub record DomainView (L : Type 0) : Type 0 where
   pub ends : List L
   pub ids : List RequestId
   pub packets : List PacketId
-  pub book : Book
 
 abbrev pub has_id : RequestId → RequestId → Bool
 has_id id i = i.key == id.key && i.serial == id.serial

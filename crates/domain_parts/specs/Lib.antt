@@ -15,7 +15,6 @@ pub mod Hearing
 pub mod InBook
 pub mod InRequests
 pub mod InPlaces
-pub mod Stores
 pub mod Owed
 pub mod Peers
 pub mod AllMoved

@@ -61,4 +61,4 @@ holding_in v b r q t ps = record { parts = parts_in v b r q t ps; ends = ends_of
 
 -- what contracts of a domain see of it
 abbrev pub shown : {L : Type 0} → Holding L → DomainView L
-shown h = record { state = unnamed (state_of h.parts); numbered = state_of h.parts; nameless = refl; ends = h.ends; ids = map (λ r. r.id) h.parts.requests.standing; packets = h.parts.records.lent; book = h.parts.book }
+shown h = record { state = unnamed (state_of h.parts); numbered = state_of h.parts; nameless = refl; ends = h.ends; ids = map (λ r. r.id) h.parts.requests.standing; packets = h.parts.records.lent }

@@ -3,22 +3,14 @@
 -- beside each visit.
 use Rattle.std.specs.Prelude.{◌≡◌, ℕ, Bool, false, List, [], ◌∷◌, ◌++◌, length}
 use Rattle.std.specs.List.{list_all}
-use Rattle.buffer_book.specs.Book.{Book}
 use Rattle.board_model.specs.Journal.{Line, Visit, is_idle, noted, turned}
 use Rattle.board_model.specs.Deeds.{after_deeds}
 use Rattle.board_model.specs.Turn.{IsTurn, after_turn}
-use Rattle.domain_parts.specs.Stores.{KeepsHeld, AreStored}
 use Rattle.domain_parts.specs.LaneMoves.{LaneMove}
 use Rattle.domain_parts.specs.Beginning.{told_of_all, has_begun_after}
 use Rattle.domain_parts.specs.AllMoved.{AllMoved, turn_moves}
 use Rattle.domain_parts.specs.DomainView.{DomainView}
 use Rattle.domain_parts.specs.NumberedDeeds.{turn_deeds}
-
--- all frames that stay are stored
-abbrev pub AllStored : List Visit → List (List ℕ) → Book → Type 0
-AllStored [] numbers b = Unit {0}
-AllStored (v ∷ vs) [] b = Unit {0}
-AllStored (v ∷ vs) (ns ∷ numbers) b = AreStored v.peer ns v.takes b × AllStored vs numbers b
 
 -- each visit has the numbers of as many buffers as it takes frames
 abbrev pub HaveNumbers : List Visit → List (List ℕ) → Type 0
@@ -27,15 +19,13 @@ HaveNumbers (v ∷ vs) (ns ∷ numbers) = (length ns ≡ length v.takes) × Have
 HaveNumbers visits numbers = ⊥
 
 -- A turn: the visits are those that the lanes allow, and at the ends towards each peer just the moves of the visit to it are made.
--- What was held stays, and so do the ids of requests and packets
+-- The ids of requests and packets stay
 pub record Turns {L : Type 0} (Moved : L → List LaneMove → L → Type 0) (visits : List Visit) (numbers : List (List ℕ)) (old new : DomainView L) : Type 0 where
   pub allowed : IsTurn old.state visits
   pub state : new.state ≡ after_turn old.state visits
   pub numbered : new.numbered ≡ after_deeds old.numbered (turn_deeds visits numbers)
   pub each : HaveNumbers visits numbers
   pub moved : AllMoved Moved old.ends (turn_moves visits numbers) new.ends
-  pub stays : KeepsHeld old.book new.book
-  pub stored : AllStored visits numbers new.book
   pub ids : new.ids ≡ old.ids
   pub packets : new.packets ≡ old.packets
 

@@ -3,8 +3,6 @@
 use Rattle.std.specs.Prelude.{◌≡◌, ◌≤◌, ℕ, Bool, List, [], ◌∷◌, Option, None}
 use Rattle.mc_base.specs.Limits.{last_domain, node_limit, pool_limit}
 use Rattle.mc_base.specs.declared.request.RequestId.{RequestId}
-use Rattle.mc_base.specs.declared.request.Slot.{Slot}
-use Rattle.buffer_book.specs.Book.{kept_at}
 use Rattle.lane_end.specs.PlainSender.{Sends}
 use Rattle.lane_end.specs.PlainReceiver.{Receives}
 use Rattle.lane_end.specs.Loop.{new_loop}
@@ -57,4 +55,3 @@ pub record IsOpened (m : Member) (peer size : ℕ) (d : PlainDomain) : Type 0 wh
   pub state : d.state ≡ opening m.number m.nodes (neighbours_opened m.number m.pool (new_link peer size ∷ []))
   pub ends : d.ends ≡ ends_opened m.number (new_loop m.pool) (new_link peer size ∷ [])
   pub ids : d.ids ≡ []
-  pub book : (s : Slot) → kept_at d.book s ≡ None

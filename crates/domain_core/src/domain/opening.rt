@@ -1,10 +1,9 @@
 //! How a domain is opened, gives its links back, and how its links carry.
 
-ghost use Rattle.std.specs.Prelude.{◌≡◌, ◌≤◌, [], IfOk, None};
+ghost use Rattle.std.specs.Prelude.{◌≡◌, ◌≤◌, [], IfOk};
 ghost use Rattle.std.specs.List.{AllByRecursion};
-ghost use Rattle.mc_base.specs.declared.request.Slot.{Slot};
+ghost use Rattle.mc_base.specs.Limits.{last_domain, node_limit, pool_limit};
 ghost use Rattle.board_model.specs.State.{opening};
-ghost use Rattle.buffer_book.specs.Book.{kept_at};
 ghost use Rattle.domain_parts.specs.Carrying.{AreLinked, Carries};
 ghost use Rattle.domain_parts.specs.Opening.{IsOpenLink, AreLinksOf, neighbours_opened, ends_opened, links_in};
 ghost use Rattle.lane_end.specs.Loop.{new_loop};
@@ -32,11 +31,11 @@ impl<S: SendEnd + Drop, R: RecvEnd + Drop> Domain<S, R> {
         pool: u32,
         links: Vec<Link<S, R>>,
     ) -> Result<Domain<S, R>, NoMemory>
-        requires number { number ≤ 7 }
+        requires number { number ≤ last_domain }
         requires some_nodes { 1 ≤ nodes }
-        requires nodes { nodes ≤ 16 }
+        requires nodes { nodes ≤ node_limit }
         requires some_pool { 1 ≤ pool }
-        requires pool { pool ≤ 256 }
+        requires pool { pool ≤ pool_limit }
         requires peers { AreLinksOf number links.items }
         requires open { AllByRecursion (IsOpenLink S.size S.free R.size R.shown R.out) links.items }
         ensures state { IfOk result (λ d. d.state ≡ opening number nodes (neighbours_opened number pool links.items)) }
@@ -44,7 +43,6 @@ impl<S: SendEnd + Drop, R: RecvEnd + Drop> Domain<S, R> {
         ensures ends { IfOk result (λ d. d.ends ≡ ends_opened number (new_loop pool) links.items) }
         ensures ids { IfOk result (λ d. d.ids ≡ []) }
         ensures packets { IfOk result (λ d. d.packets ≡ []) }
-        ensures book { IfOk result (λ d. (s : Slot) → kept_at d.book s ≡ None) }
     {
         Ok(Domain {
             inside: Holdings::open(alloc, number, nodes, pool, links)?,

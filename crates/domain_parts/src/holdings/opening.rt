@@ -1,10 +1,9 @@
 //! How the inside of a domain begins and ends, and how two are carried.
 
-ghost use Rattle.std.specs.Prelude.{◌≡◌, ◌≤◌, [], IfOk, None};
+ghost use Rattle.std.specs.Prelude.{◌≡◌, ◌≤◌, [], IfOk};
 ghost use Rattle.std.specs.List.{AllByRecursion};
-ghost use Rattle.mc_base.specs.declared.request.Slot.{Slot};
+ghost use Rattle.mc_base.specs.Limits.{last_domain, node_limit, pool_limit};
 ghost use Rattle.board_model.specs.State.{opening};
-ghost use Rattle.buffer_book.specs.Book.{kept_at};
 ghost use Rattle.lane_end.specs.Loop.{new_loop};
 ghost use Rattle.domain_parts.specs.Carried.{FirstMeet, MayMeet};
 ghost use Rattle.domain_parts.specs.Opening.{AreLinksOf, IsOpenLink, ends_opened, links_in, neighbours_opened};
@@ -34,11 +33,11 @@ impl<S: SendEnd + Drop, R: RecvEnd + Drop> Holdings<Ends<S, R>> {
         pool: u32,
         links: Vec<Link<S, R>>,
     ) -> Result<Holdings<Ends<S, R>>, NoMemory>
-        requires number { number ≤ 7 }
+        requires number { number ≤ last_domain }
         requires some_nodes { 1 ≤ nodes }
-        requires nodes { nodes ≤ 16 }
+        requires nodes { nodes ≤ node_limit }
         requires some_pool { 1 ≤ pool }
-        requires pool { pool ≤ 256 }
+        requires pool { pool ≤ pool_limit }
         requires peers { AreLinksOf number links.items }
         requires open { AllByRecursion (IsOpenLink S.size S.free R.size R.shown R.out) links.items }
         ensures state { IfOk result (λ h. (shown h).state ≡ opening number nodes (neighbours_opened number pool links.items)) }
@@ -46,7 +45,6 @@ impl<S: SendEnd + Drop, R: RecvEnd + Drop> Holdings<Ends<S, R>> {
         ensures ends { IfOk result (λ h. h.ends ≡ ends_opened number (new_loop pool) links.items) }
         ensures ids { IfOk result (λ h. (shown h).ids ≡ []) }
         ensures packets { IfOk result (λ h. (shown h).packets ≡ []) }
-        ensures book { IfOk result (λ h. (s : Slot) → kept_at h.parts.book s ≡ None) }
     {
         let linked = numbers_of(alloc, &links)?;
         let sizes = sizes_of(alloc, number, pool, &links)?;

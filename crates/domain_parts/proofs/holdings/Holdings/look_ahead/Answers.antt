@@ -14,7 +14,6 @@ use Rattle.domain_parts.specs.Steps.{at_peer, moved_peer, looked_ahead}
 use Rattle.domain_parts.proofs.TurnMeaning.{looked_ahead-is}
 use Rattle.domain_parts.proofs.TurnSteps.{looked_ahead-keeps}
 use Rattle.domain_parts.proofs.Turning.{doing-by, held-out, peer-is, peers-are, seen-there, there-read}
-use Rattle.domain_parts.proofs.Storing.{keeps-none}
 use Rattle.domain_parts.proofs.holdings.Holdings.look_ahead.Given.{Over}
 use Rattle.domain_parts.proofs.holdings.Holdings.look_ahead.Goals as goal
 
@@ -48,7 +47,7 @@ returns-clause-doing g c =
     let new = holding_in (v g) d.book d.endpoints d.requests d.table (slice_set d.peers.items c.args.place (record x { ends = c.look_ahead.new.self })) in
     subst (λ (h : Holding g.row.P.Denot). Doing M (peer_at h.parts c.args.place).number (looks_ahead (peer_at h.parts c.args.place).number n ∷ []) (receiver (receiving.Looked n) ∷ []) h new) c.self.view_is
     (doing-by M g.met.P.PeerLane.none (v g) d.book d.endpoints d.requests d.table d.peers.items c.self.invariant c.args.place x (there g c) c.look_ahead.new.self (receiver (receiving.Looked c.look_ahead.result) ∷ []) c.look_ahead.ensures.seen c.look_ahead.ensures.moved
-    (looked_ahead x.number n ∷ []) (λ k. looks_ahead k n ∷ []) new (λ k. refl) (ap (λ ps. record (p g d) { peers = ps }) (peers g c)) refl (tt, tt) (looked_ahead-is (p g d) c.self.invariant c.args.place (peer_seen (v g) x) (seen-there M g.met.P.PeerLane.none (v g) d.book d.endpoints d.requests d.table d.peers.items c.self.invariant c.args.place x (there g c)) n) (keeps-none d.book) refl refl)
+    (looked_ahead x.number n ∷ []) (λ k. looks_ahead k n ∷ []) new (λ k. refl) (ap (λ ps. record (p g d) { peers = ps }) (peers g c)) refl (tt, tt) (looked_ahead-is (p g d) c.self.invariant c.args.place (peer_seen (v g) x) (seen-there M g.met.P.PeerLane.none (v g) d.book d.endpoints d.requests d.table d.peers.items c.self.invariant c.args.place x (there g c)) n) refl refl)
 
 pub returns-clause-fits : goal.returns-clause-fits
 returns-clause-fits g c =

@@ -16,7 +16,6 @@ use Rattle.domain_parts.proofs.Owing.{set-peer}
 use Rattle.domain_parts.proofs.TurnMeaning.{looked_back-is}
 use Rattle.domain_parts.proofs.TurnSteps.{looked_back-keeps}
 use Rattle.domain_parts.proofs.Turning.{doing-by, peer-is, peers-are, seen-there, there-read}
-use Rattle.domain_parts.proofs.Storing.{keeps-none}
 use Rattle.domain_parts.proofs.holdings.Holdings.look_back.Given.{Over}
 use Rattle.domain_parts.proofs.holdings.Holdings.look_back.Goals as goal
 
@@ -50,7 +49,7 @@ returns-clause-doing g c =
     let new = holding_in (v g) d.book d.endpoints d.requests d.table (slice_set d.peers.items c.args.place (record x { ends = c.look_back.new.self })) in
     subst (λ (h : Holding g.row.P.Denot). Doing M (peer_at h.parts c.args.place).number (looks_back (peer_at h.parts c.args.place).number n ∷ []) (sender (Looked n) ∷ []) h new) c.self.view_is
     (doing-by M g.met.P.PeerLane.none (v g) d.book d.endpoints d.requests d.table d.peers.items c.self.invariant c.args.place x (there g c) c.look_back.new.self (sender (Looked c.look_back.result) ∷ []) c.look_back.ensures.seen c.look_back.ensures.moved
-    (looked_back x.number n ∷ []) (λ k. looks_back k n ∷ []) new (λ k. refl) (ap (λ ps. record (p g d) { peers = ps }) (peers g c)) refl (tt, tt) (looked_back-is (p g d) c.self.invariant c.args.place (peer_seen (v g) x) (seen-there M g.met.P.PeerLane.none (v g) d.book d.endpoints d.requests d.table d.peers.items c.self.invariant c.args.place x (there g c)) n) (keeps-none d.book) refl refl)
+    (looked_back x.number n ∷ []) (λ k. looks_back k n ∷ []) new (λ k. refl) (ap (λ ps. record (p g d) { peers = ps }) (peers g c)) refl (tt, tt) (looked_back-is (p g d) c.self.invariant c.args.place (peer_seen (v g) x) (seen-there M g.met.P.PeerLane.none (v g) d.book d.endpoints d.requests d.table d.peers.items c.self.invariant c.args.place x (there g c)) n) refl refl)
 
 pub returns-clause-owed : goal.returns-clause-owed
 returns-clause-owed g c =

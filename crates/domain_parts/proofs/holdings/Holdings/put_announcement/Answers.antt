@@ -16,7 +16,6 @@ use Rattle.domain_parts.specs.Peers.{peer_in}
 use Rattle.domain_parts.specs.Parts.{Holding, Parts, Sound, holding_in, parts_in, peer_at, peer_seen, plain}
 use Rattle.domain_parts.specs.Steps.{done, owed_put}
 use Rattle.domain_parts.proofs.Owing.{IsOldest, announced-owed, may-put, oldest-frame, set-peer}
-use Rattle.domain_parts.proofs.Storing.{keeps-none}
 use Rattle.domain_parts.proofs.TurnMeaning.{owed_put-is}
 use Rattle.domain_parts.proofs.TurnSteps.{owed_put-keeps}
 use Rattle.domain_parts.proofs.Turning.{doing-by, peer-is, peers-are, seen-there, there-read}
@@ -70,7 +69,7 @@ returns-clause-puts g c =
     let now = set-peer (v g) d.peers.items c.args.place x (record x { ends = c.put.new.self }) (there g c) in
     let told = c.note.ensures.lines ∙ ap (λ (ls : List Line). ls ++ put_line x.number f ∷ []) c.begin_turn.ensures.lines ∙ append_assoc lines (beginning c.args.begun) (put_line x.number f ∷ []) in
     let doing = doing-by M g.met.P.PeerLane.none (v g) d.book d.endpoints d.requests d.table d.peers.items c.self.invariant c.args.place x (there g c) c.put.new.self (sender (Sent f) ∷ []) c.put.ensures.seen c.put.ensures.moved
-    (owed_put x.number f ∷ []) (λ k. puts_owed k f ∷ []) new (λ k. refl) (after g c) refl (may-put (p g d) c.self.invariant c.args.place (peer_seen (v g) x) seen f _ owed, tt) (owed_put-is (p g d) c.self.invariant c.args.place (peer_seen (v g) x) seen f some) (keeps-none d.book) refl refl in
+    (owed_put x.number f ∷ []) (λ k. puts_owed k f ∷ []) new (λ k. refl) (after g c) refl (may-put (p g d) c.self.invariant c.args.place (peer_seen (v g) x) seen f _ owed, tt) (owed_put-is (p g d) c.self.invariant c.args.place (peer_seen (v g) x) seen f some) refl refl in
     subst (λ (h : Holding g.row.P.Denot). (z : List ℕ) × Puts M c.args.place c.args.begun (z ∷ []) h new lines c.note.new.self.lines) c.self.view_is (
       f,
       record {

@@ -20,7 +20,6 @@ use Rattle.domain_parts.specs.AllMoved.{ends_of}
 use Rattle.domain_parts.specs.declared.replies.Reply.{Reply}
 use Rattle.domain_parts.proofs.ChangedPeers.{set-changed}
 use Rattle.domain_parts.proofs.Stepping.{seen-set}
-use Rattle.domain_parts.proofs.Storing.{keeps-none}
 use Rattle.domain_parts.proofs.TurnMeaning.{reply_put-is}
 use Rattle.domain_parts.proofs.TurnSteps.{reply_put-keeps}
 use Rattle.domain_parts.proofs.Turning.{doing-by, peer-is, seen-there, there-read}
@@ -88,7 +87,7 @@ returns-clause-puts g c =
     let owed = replied-owed d.table.domain (owed_by (owing_to d.table x.number)) x.replies c.args.reply f none first c.write_reply-len.ensures.frame in
     let told = c.note.ensures.lines ∙ ap (λ (ls : List Line). ls ++ put_line x.number f ∷ []) c.begin_turn.ensures.lines ∙ append_assoc lines (beginning c.args.begun) (put_line x.number f ∷ []) in
     let doing = doing-by M g.met.P.PeerLane.none (v g) d.book d.endpoints d.requests d.table d.peers.items c.self.invariant c.args.place x (there g c) c.put.new.self (sender (Sent f) ∷ []) c.put.ensures.seen c.put.ensures.moved
-    (reply_put x.number f ∷ []) (λ k. puts_owed k f ∷ []) new (λ k. refl) (after g c) (same_ends d.peers.items c.args.place x c.put.new.self c.remove_first.new.self) (may-put (p g d) c.self.invariant c.args.place (peer_seen (v g) x) seen f _ owed, tt) (reply_put-is (p g d) c.self.invariant c.args.place (peer_seen (v g) x) seen f none) (keeps-none d.book) refl refl in
+    (reply_put x.number f ∷ []) (λ k. puts_owed k f ∷ []) new (λ k. refl) (after g c) (same_ends d.peers.items c.args.place x c.put.new.self c.remove_first.new.self) (may-put (p g d) c.self.invariant c.args.place (peer_seen (v g) x) seen f _ owed, tt) (reply_put-is (p g d) c.self.invariant c.args.place (peer_seen (v g) x) seen f none) refl refl in
     subst (λ (h : Holding g.row.P.Denot). (z : List ℕ) × Puts M c.args.place c.args.begun (z ∷ []) h new lines c.note.new.self.lines) c.self.view_is (
       f,
       record {

@@ -1,13 +1,13 @@
 use Rattle.std.proofs.Common.{◌<◌, ◌∙◌, ℕ, List, map, ap, sym, subst}
 use Rattle.std.specs.Prelude.{sum_by}
-use Rattle.buffer_book.specs.Book.{AllDiffer, Book, kept_at, opening_book}
+use Rattle.buffer_book.specs.Book.{AllDiffer, opening_book}
 use Rattle.endpoint_table.specs.Table.{opening_table}
 use Rattle.domain_parts.specs.Ends.{ends_seen}
 use Rattle.domain_parts.specs.AllMoved.{ends_of}
 use Rattle.domain_parts.specs.Opened.{sizes_opened}
 use Rattle.domain_parts.specs.Records.{opening_records, Records}
 use Rattle.domain_parts.proofs.Stepping.{sound-seen, state-seen}
-use Rattle.domain_parts.proofs.Opening.{ends-opening, kept-none, parts-sound, parts-state, room-fits, sizes-apart}
+use Rattle.domain_parts.proofs.Opening.{ends-opening, parts-sound, parts-state, room-fits, sizes-apart}
 use Rattle.board_model.specs.Unnamed.{unnamed}
 use Rattle.domain_parts.proofs.holdings.opening.Holdings+Ends+S+R.open.Goals as goal
 
@@ -58,9 +58,6 @@ pub returns-clause-ends : goal.returns-clause-ends
 returns-clause-ends g c =
     ap ends_of c.in_ok-peers_of.ensures
     ∙ ends-opening g.S.SendEnd.size g.S.SendEnd.free g.R.RecvEnd.size g.R.RecvEnd.shown g.R.RecvEnd.out c.args.number c.args.nodes c.args.pool c.args.links.items c.requires.number c.requires.pool c.requires.peers c.requires.open
-
-pub returns-clause-book : goal.returns-clause-book
-returns-clause-book g c = λ s. ap (λ (b : Book). kept_at b s) c.in_ok-new-2.ensures ∙ kept-none _ s
 
 pub returns-clause-packets : goal.returns-clause-packets
 returns-clause-packets g c = ap (λ (r : Records). r.lent) c.in_ok-open.ensures
