@@ -404,7 +404,6 @@ module _ (s : Scenario) (board : IsLinkedBoard s) (rings : List LinkRings) (hs :
       whole = alone_whole s h.olds h.news h.alone;
       tells = record {
         journals = h.told ∙ stations-told s ts h.news (are_stations s h.olds h.news h.alone);
-        rings = refl;
         places = added ts ran-board whole-tallied;
         channels = h.channels ts ran-board (stations-ended s ts h.news (are_stations s h.olds h.news h.alone));
         messages = totalled ts ran-board whole-tallied;

@@ -1,6 +1,6 @@
 -- What the outcome of a run says of its board run.
--- Source: docs/FORMATS.md, "Report". A serial run closes none of its rings, so none is listed.
-use Rattle.std.specs.Prelude.{◌≡◌, List, [], map}
+-- Source: docs/FORMATS.md, "Report". Its rings stand apart: a serial run finishes none.
+use Rattle.std.specs.Prelude.{◌≡◌, List, map}
 use Rattle.board_model.specs.declared.scenario.Scenario.{Scenario}
 use Rattle.board_model.specs.Scenario.{lanes}
 use Rattle.board_model.specs.Journal.{Line}
@@ -18,7 +18,6 @@ lines_in journals = map (λ j. j.lines) journals
 -- the outcome tells these journals, and their numbers
 pub record IsOutcome (s : Scenario) (o : Outcome) (js : List DomainJournal) : Type 0 where
   pub journals : lines_in o.journals ≡ map lines_of js
-  pub rings : o.rings ≡ []
   pub places : o.places ≡ map (places_of s js) (lanes s)
   pub channels : o.channels ≡ channel_totals s js
   pub messages : o.messages ≡ totals s js

@@ -63,7 +63,7 @@ pub record IsThreadRun (s : Scenario) (o : Outcome) : Type 0 where
   pub journals : List DomainJournal
   pub run : IsBoardRun s journals
   pub whole : AreWhole s journals
-  pub tells : IsOutcome s (record o { rings = [] }) journals
+  pub tells : IsOutcome s o journals
   pub rings : TellLanes s journals s.links o.rings
   -- no buffer came back before the frame was put that it carried, on the own lanes of domains neither
   pub in_time : AreInTime s journals

@@ -1,6 +1,6 @@
 //! The outcome that a run's stations leave.
 
-ghost use Rattle.std.specs.Prelude.{◌≡◌, IfOk, map};
+ghost use Rattle.std.specs.Prelude.{◌≡◌, [], IfOk, map};
 ghost use Rattle.board_model.specs.Language.{IsLawfulBoard};
 ghost use Rattle.board_model.specs.SerialRun.{finished, serial_run};
 ghost use Rattle.board_numbers.specs.Tallied.{AreHeld};
@@ -28,7 +28,8 @@ pub fn outcome_of(
 ) -> Result<Outcome, NoMemory>
     requires lawful { IsLawfulBoard scenario.now }
     requires run { IsRun scenario.now (finished scenario.now) stations.items }
-    ensures { IfOk result (λ o. IsOutcome scenario.now o (serial_run scenario.now)) }
+    ensures told { IfOk result (λ o. IsOutcome scenario.now o (serial_run scenario.now)) }
+    ensures rings { IfOk result (λ o. o.rings ≡ []) }
 {
     let tallies = tallies_of(alloc, &stations)?;
     let places = places_of(alloc, scenario, tallies.as_slice())?;

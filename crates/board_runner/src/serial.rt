@@ -1,6 +1,6 @@
 //! The serial run.
 
-ghost use Rattle.std.specs.Prelude.{◌≡◌, ◌<◌, ℕ, IfOk, OnOk, count_by, length, nat_lt, slice_index};
+ghost use Rattle.std.specs.Prelude.{◌≡◌, ◌<◌, [], ℕ, IfOk, OnOk, count_by, length, nat_lt, slice_index};
 ghost use Rattle.mc_base.specs.Limits.{asked_limit};
 ghost use Rattle.board_model.specs.Language.{IsLawfulBoard};
 ghost use Rattle.board_model.specs.SerialRun.{opened, finished, serial_run};
@@ -31,7 +31,8 @@ use std::alloc::Global;
 /// `NoMemory` where an allocation fails: memory is taken for the board and for the journals, which grow with the run.
 pub fn run_serial(alloc: Global, scenario: &Scenario) -> Result<Outcome, NoMemory>
     requires { IsLawfulBoard scenario.now }
-    ensures { IfOk result (λ o. IsOutcome scenario.now o (serial_run scenario.now)) }
+    ensures told { IfOk result (λ o. IsOutcome scenario.now o (serial_run scenario.now)) }
+    ensures rings { IfOk result (λ o. o.rings ≡ []) }
 {
     let links = scenario.links.as_slice();
     let (rings, halves) = rings_of(alloc, links)?;

@@ -1,5 +1,5 @@
 -- What the run of a board leaves is written as a report, in either mode.
-use Rattle.std.proofs.Common.{◌≡◌, ℕ, List, Result, Ok, Err, length, ap, arith, refl, sym, subst}
+use Rattle.std.proofs.Common.{◌≡◌, ℕ, List, [], Result, Ok, Err, length, ap, arith, refl, sym, subst}
 use Rattle.std.specs.Prelude.{IfOk}
 use Rattle.mc_base.specs.declared.refusal.NoMemory.{NoMemory}
 use Rattle.std.proofs.lemmas.List.{length-map}
@@ -27,18 +27,18 @@ use Rattle.scenario_cli.proofs.RunsChecked.{left-checked}
 sound_of : (s : Scenario) (js : List DomainJournal) → IsLawfulBoard s → IsBoardRun s js → AreWhole s js → IsSound s js
 sound_of s js lawful run whole = record { board_run = run; whole = whole; headline = linked_headline s js (lawful_is_linked s lawful) run }
 
-left_serial : (s : Scenario) (o : Outcome) → IsLawfulBoard s → IsOutcome s o (serial_run s) → IsLeft serial s o
-left_serial s o lawful is =
+left_serial : (s : Scenario) (o : Outcome) → IsLawfulBoard s → IsOutcome s o (serial_run s) → o.rings ≡ [] → IsLeft serial s o
+left_serial s o lawful is none =
     let run = lawful_run s lawful in
-    record { journals = serial_run s; left = refl; sound = sound_of s (serial_run s) lawful run.0 run.1; told = record { journals = is.journals; rings = refl; places = is.places; channels = is.channels; messages = is.messages }; rings_left = is.rings }
+    record { journals = serial_run s; left = refl; sound = sound_of s (serial_run s) lawful run.0 run.1; told = is; rings_left = none }
 
 left_threads : (s : Scenario) (o : Outcome) → IsLawfulBoard s → IsThreadRun s o → IsLeft threads s o
 left_threads s o lawful is = record { journals = is.journals; left = tt; sound = sound_of s is.journals lawful is.run is.whole; told = is.tells; rings_left = (is.rings, is.in_time) }
 
 -- so it is with what a run answers
-pub if_left_serial : (s : Scenario) (r : Result Outcome NoMemory) → IsLawfulBoard s → IfOk r (λ o. IsOutcome s o (serial_run s)) → IfOk r (IsLeft serial s)
-if_left_serial s (Ok o) lawful is = left_serial s o lawful is
-if_left_serial s (Err e) lawful is = tt
+pub if_left_serial : (s : Scenario) (r : Result Outcome NoMemory) → IsLawfulBoard s → IfOk r (λ o. IsOutcome s o (serial_run s)) → IfOk r (λ o. o.rings ≡ []) → IfOk r (IsLeft serial s)
+if_left_serial s (Ok o) lawful is none = left_serial s o lawful is none
+if_left_serial s (Err e) lawful is none = tt
 
 pub if_left_threads : (s : Scenario) (r : Result Outcome NoMemory) → IsLawfulBoard s → IfOk r (IsThreadRun s) → IfOk r (IsLeft threads s)
 if_left_threads s (Ok o) lawful is = left_threads s o lawful is

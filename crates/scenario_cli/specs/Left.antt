@@ -1,6 +1,6 @@
 -- What the run of a board leaves, in either mode.
 -- Source: docs/FORMATS.md, "Statuses".
-use Rattle.std.specs.Prelude.{◌≡◌, ℕ, List, []}
+use Rattle.std.specs.Prelude.{◌≡◌, ℕ, List}
 use Rattle.board_model.specs.declared.scenario.Scenario.{Scenario}
 use Rattle.board_model.specs.Board.{DomainJournal}
 use Rattle.board_model.specs.Report.{Mode}
@@ -16,7 +16,7 @@ pub record IsLeft (mode : Mode) (s : Scenario) (o : Outcome) : Type 0 where
   pub journals : List DomainJournal
   pub left : MayLeave mode s journals
   pub sound : IsSound s journals
-  pub told : IsOutcome s (record o { rings = [] }) journals
+  pub told : IsOutcome s o journals
   pub rings_left : MayLeaveRings mode s journals o.rings
 
 -- the output is the report of sound journals, and of rings, that a run in this mode may leave. It has no wrong line

@@ -38,14 +38,16 @@ totals_of-messages-requires-clause-tallies c =
       tallies = tallied s c.args.stations.items _ c.in_ok-tallies.tallies _ c.requires.run.each c.deref.ensures.value c.in_ok-tallies.ensures c.as_slice-2.ensures;
     }
 
-pub returns : goal.returns
-returns c =
+pub returns-clause-told : goal.returns-clause-told
+returns-clause-told c =
     let s = c.args.scenario.now in
     let ran = finished_ran s (lawful_is_linked s c.requires.lawful) c.args.stations.items c.requires.run.each in
     record {
       journals = c.in_ok-journals_of.ensures ∙ stations-told s (finished s).stations c.args.stations.items c.requires.run.each;
       places = c.in_ok-places.ensures (finished s).stations ran (tallied s c.args.stations.items _ c.in_ok-tallies.tallies _ c.requires.run.each c.deref.ensures.value c.in_ok-tallies.ensures c.as_slice.ensures);
-      rings = c.new-2.ensures ∙ c.new.ensures.items;
       channels = c.in_ok-channels.ensures (finished s).stations ran (ended s c.args.stations.items _ c.requires.run.each c.deref-2.ensures.value);
       messages = c.totals_of-messages.ensures (finished s).stations ran (tallied s c.args.stations.items _ c.in_ok-tallies.tallies _ c.requires.run.each c.deref.ensures.value c.in_ok-tallies.ensures c.as_slice-2.ensures);
     }
+
+pub returns-clause-rings : goal.returns-clause-rings
+returns-clause-rings c = c.new-2.ensures ∙ c.new.ensures.items
