@@ -1,4 +1,4 @@
--- The items of a shelf after each change, and that it stays sound.
+-- The items that the columns of a shelf tell, where one changes.
 use Rattle.std.proofs.Common.{◌≡◌, ◌≢◌, ℕ, zero, suc, ◌+◌, ◌*◌, ◌<◌, ◌≤◌, ◌^◌, Bool, true, false, cond, List, [], ◌∷◌, ◌++◌, length, map, Option, Some, None, refl, sym, ap, subst, ◌∙◌, arith, replicate}
 use Rattle.std.specs.Prelude.{slice_get, slice_set, sum_by, ◌==◌, IsSome, IsNone, option_and_then, option_map}
 use Rattle.std.specs.List.{AllByRecursion}
@@ -7,9 +7,9 @@ use Rattle.std.proofs.lemmas.Option.{slice_get-map, slice_get_within}
 use Rattle.std.proofs.lemmas.List.{length-replicate}
 use Rattle.std.proofs.lemmas.List.Sums.{sum_by-cons}
 use Rattle.item_book.specs.declared.cell.Resting.{Resting}
-use Rattle.item_book.specs.Book.{Kept, Item, kept_on_place, frames_of, item_on, item_as, if_state, is_state, with_frame, lent_under, left_of}
+use Rattle.item_book.specs.Book.{Kept, Item, kept_on_place, frames_of, item_on, item_as, if_state, is_state, with_frame, lent_under}
 use Rattle.item_book.specs.Links.{at, walk, last_of, Lacks, Differ}
-use Rattle.item_book.specs.Runs.{Head, Columns, with_held, with_link, with_head, named, joined_head, lent_head, shortened, shortened_by, rested, head_on, head_as, if_head, item_of, items_of, resting_head, aside_of_resting, asides_of, IsOwn, IsRun, IsSound, head_weight, place_weight, resting_weight, resting_one, empty_columns}
+use Rattle.item_book.specs.Runs.{Head, Columns, with_held, with_link, with_head, named, joined_head, lent_head, head_on, head_as, if_head, item_of, items_of, resting_head, aside_of_resting, asides_of, IsOwn, IsRun, IsSound, head_weight, place_weight, resting_weight, resting_one, empty_columns}
 use Rattle.item_book.proofs.Sets.{set-in, set-other, set-length, map-set, map-but, map-same, set-each, set-sum}
 use Rattle.item_book.proofs.Walks.{All-each, All-lacking, All-push, All-last, Differ-push, last-push, more-set, walk-join}
 
@@ -58,7 +58,7 @@ none-head : (o : Option (Option Head)) → o ≢ None → option_and_then (λ h.
 none-head None there none = absurd (there refl)
 none-head (Some o) there none = ap (λ (p : Option Head). Some p) none
 
-not-past : {X : Type 0} (xs : List X) (i : ℕ) → i < length xs → slice_get xs i ≢ None
+pub not-past : {X : Type 0} (xs : List X) (i : ℕ) → i < length xs → slice_get xs i ≢ None
 not-past [] i lt e = omega arith
 not-past (x ∷ xs) zero lt e = absurd cc
 not-past (x ∷ xs) (suc i) lt e = not-past xs i (omega arith) e
@@ -97,7 +97,7 @@ own-put places owner x k m n f away own =
 own-new : (places : List (Option Kept)) (owner : ℕ → ℕ) (x : ℕ) (k : Kept) (m : ℕ) → x < length places → IsOwn (slice_set places x (Some k)) (owned owner x m) m x
 own-new places owner x k m lt = (rw (set-in places x (Some k) lt) refl, rw (eq-eqb x x refl) refl)
 
-own-take : (places : List (Option Kept)) (owner : ℕ → ℕ) (x n f : ℕ) → f ≢ x → IsOwn places owner n f → IsOwn (slice_set places x None) owner n f
+pub own-take : (places : List (Option Kept)) (owner : ℕ → ℕ) (x n f : ℕ) → f ≢ x → IsOwn places owner n f → IsOwn (slice_set places x None) owner n f
 own-take places owner x n f differs own = (subst (λ (o : Option (Option Kept)). IsSome (option_and_then (λ p. p) o)) (sym (set-other places x f None differs)) own.0, own.1)
 
 -- a place of one item is in no other
@@ -108,10 +108,10 @@ lacks-own places owner key n x fs own differs all = All-each (IsOwn places owner
 lacks-away : (places : List (Option Kept)) (owner : ℕ → ℕ) (n x : ℕ) (fs : List ℕ) → kept_on_place places x ≡ None → AllByRecursion (IsOwn places owner n) fs → Lacks fs x
 lacks-away places owner n x fs away all = All-each (IsOwn places owner n) (λ f. f ≢ x) fs (λ f o e. let gone : kept_on_place places f ≡ None = ap (kept_on_place places) e ∙ away in let is : IsSome (kept_on_place places f) = o.0 in absurd cc) all
 
-even-differs : (n m : ℕ) → n ≢ m → 2 * n ≢ 2 * m
+pub even-differs : (n m : ℕ) → n ≢ m → 2 * n ≢ 2 * m
 even-differs n m differs e = differs (omega (arith, e))
 
-odd-differs : (n m : ℕ) → n ≢ m → 2 * n + 1 ≢ 2 * m + 1
+pub odd-differs : (n m : ℕ) → n ≢ m → 2 * n + 1 ≢ 2 * m + 1
 odd-differs n m differs e = differs (omega (arith, e))
 
 pub odd-even : (n m : ℕ) → 2 * n + 1 ≢ 2 * m
@@ -138,7 +138,7 @@ run-besides places next owner key n x l k h differs own away r =
       last = r.last ∙ ap (last_of h.first) (sym same);
     }
 
-run-apart : (places : List (Option Kept)) (next : List ℕ) (owner : ℕ → ℕ) (key n x : ℕ) (h : Head) → n ≢ key → owner x ≡ key → IsRun places next owner n h → IsRun (slice_set places x None) next owner n h
+pub run-apart : (places : List (Option Kept)) (next : List ℕ) (owner : ℕ → ℕ) (key n x : ℕ) (h : Head) → n ≢ key → owner x ≡ key → IsRun places next owner n h → IsRun (slice_set places x None) next owner n h
 run-apart places next owner key n x h differs own r = record {
   own = All-lacking (IsOwn places owner n) (IsOwn (slice_set places x None) owner n) x (frames_of (item_of next h)) (λ f apart o. own-take places owner x n f apart o) (lacks-own places owner key n x (frames_of (item_of next h)) own differs r.own) r.own;
   differ = r.differ;
@@ -174,7 +174,7 @@ items-put next heads x = map-set (option_map (item_of next)) heads x (Some (name
 
 -- ---- a frame more
 
-last-own : (places : List (Option Kept)) (next : List ℕ) (owner : ℕ → ℕ) (key : ℕ) (h : Head) → IsRun places next owner key h → IsOwn places owner key h.last
+pub last-own : (places : List (Option Kept)) (next : List ℕ) (owner : ℕ → ℕ) (key : ℕ) (h : Head) → IsRun places next owner key h → IsOwn places owner key h.last
 last-own places next owner key h r = subst (IsOwn places owner key) (sym r.last) (All-last (IsOwn places owner key) h.first (walk next h.more (at next h.first)) r.own)
 
 pub last-within : (c : Columns) (resting : List (Option Resting)) (count name : ℕ) (h : Head) → IsSound c resting count → slice_get c.heads name ≡ Some (Some h) → h.last < length c.next
@@ -304,188 +304,6 @@ items-lend next heads name serial h there =
     let known : item_on (items_of next heads) name ≡ Some (item_of next h) = item-head next heads name ∙ ap (λ (o : Option (Option Head)). option_map (item_of next) (option_and_then (λ g. g) o)) there in
     map-set (option_map (item_of next)) heads name (Some (lent_head serial h))
     ∙ ap (λ (o : Option Item). slice_set (items_of next heads) name (option_map (lent_under serial) o)) (sym known)
-
--- ---- the first frame taken
-
--- the run of an item without its first frame
-run-rest : (places : List (Option Kept)) (next : List ℕ) (owner : ℕ → ℕ) (key : ℕ) (h : Head) (more : ℕ) → h.more ≡ suc more → IsRun places next owner key h → IsRun (slice_set places h.first None) next owner key (record h { first = at next h.first; more = more })
-run-rest places next owner key h m e r =
-    let own : AllByRecursion (IsOwn places owner key) (walk next (suc m) (at next h.first)) = subst (λ n. AllByRecursion (IsOwn places owner key) (walk next n (at next h.first))) e r.own.1 in
-    let differ : Differ (h.first ∷ walk next (suc m) (at next h.first)) = subst (λ n. Differ (h.first ∷ walk next n (at next h.first))) e r.differ in
-    let last : h.last ≡ last_of h.first (walk next (suc m) (at next h.first)) = r.last ∙ ap (λ n. last_of h.first (walk next n (at next h.first))) e in
-    record {
-      own = All-lacking (IsOwn places owner key) (IsOwn (slice_set places h.first None) owner key) h.first (walk next (suc m) (at next h.first)) (λ f differs o. own-take places owner h.first key f differs o) differ.0 own;
-      differ = differ.1;
-      last = last;
-    }
-
-run-shortened : (places : List (Option Kept)) (next : List ℕ) (owner : ℕ → ℕ) (key : ℕ) (h : Head) (more : ℕ) → h.more ≡ more → IsRun places next owner key h → (g : Head) → shortened_by (at next h.first) h more ≡ Some g → IsRun (slice_set places h.first None) next owner key g
-run-shortened places next owner key h zero e r g is = absurd cc
-run-shortened places next owner key h (suc m) e r g is =
-    let same : record h { first = at next h.first; more = m } ≡ g = cc in
-    subst (λ x. IsRun (slice_set places h.first None) next owner key x) same (run-rest places next owner key h m e r)
-
-run-rested : (places : List (Option Kept)) (next : List ℕ) (owner : ℕ → ℕ) (key l : ℕ) (r : Resting) (more : ℕ) → r.more ≡ more → IsRun places next owner key (resting_head l r) → (g : Resting) → rested (at next r.first) r more ≡ Some g → IsRun (slice_set places r.first None) next owner key (resting_head l g)
-run-rested places next owner key l r zero e run g is = absurd cc
-run-rested places next owner key l r (suc m) e run g is =
-    let same : record r { first = at next r.first; more = m } ≡ g = cc in
-    subst (λ x. IsRun (slice_set places r.first None) next owner key (resting_head l x)) same (run-rest places next owner key (resting_head l r) m e run)
-
-short-weight : (next : ℕ) (h : Head) (more : ℕ) → head_weight (shortened_by next h more) ≡ more
-short-weight next h zero = refl
-short-weight next h (suc m) = refl
-
-rested-weight : (next : ℕ) (r : Resting) (more : ℕ) → resting_weight (rested next r more) ≡ more
-rested-weight next r zero = refl
-rested-weight next r (suc m) = refl
-
-one-held : (o : Option (Option Kept)) → IsSome (option_and_then (λ p. p) o) → (k : Kept) × (o ≡ Some (Some k))
-one-held None is = absurd cc
-one-held (Some None) is = absurd cc
-one-held (Some (Some k)) is = (k, refl)
-
-pub sound-take : (c : Columns) (resting : List (Option Resting)) (count name : ℕ) (h : Head) → IsSound c resting count → slice_get c.heads name ≡ Some (Some h) → IsSound (with_head (with_held c h.first None) name (shortened (at c.next h.first) h)) resting count
-sound-take c resting count name h s there =
-    let run = s.runs name h there in
-    let held = one-held (slice_get c.places h.first) run.own.0.0 in
-    let rest = shortened (at c.next h.first) h in
-    let less_places = set-sum place_weight c.places h.first (Some held.0) None held.1 in
-    let less_heads = set-sum head_weight c.heads name (Some h) rest there in
-    let weight = short-weight (at c.next h.first) h h.more in
-    let none : Option Kept = None in
-    record {
-      fits = rw (set-length c.places h.first none) s.fits;
-      links = s.links ∙ sym (set-length c.places h.first None);
-      names = set-length c.heads name rest ∙ s.names ∙ sym (set-length c.places h.first None);
-      rests = s.rests ∙ sym (set-length c.places h.first None);
-      numbered = set-each (λ n (j : Kept). j.buffer.number ≡ n) c.places h.first None (slice_get_within c.places h.first (Some held.0) held.1) (λ j is. absurd cc) (λ n j differs at. s.numbered n j at);
-      owner = s.owner;
-      runs = set-each (λ n g. IsRun (slice_set c.places h.first None) c.next s.owner (2 * n) g) c.heads name rest (slice_get_within c.heads name (Some h) there)
-          (λ g is. run-shortened c.places c.next s.owner (2 * name) h h.more refl run g is)
-          (λ n g differs at. run-apart c.places c.next s.owner (2 * name) (2 * n) h.first g (even-differs n name differs) run.own.0.1 (s.runs n g at));
-      aside = λ l r at. run-apart c.places c.next s.owner (2 * name) (2 * l + 1) h.first (resting_head l r) (odd-even l name) run.own.0.1 (s.aside l r at);
-      few = omega (arith, s.few, less_places, less_heads, weight);
-      counted = s.counted;
-    }
-
-pub short-item : (next : List ℕ) (h : Head) (more : ℕ) → option_map (item_of next) (shortened_by (at next h.first) h more) ≡ left_of h.lent (walk next more (at next h.first))
-short-item next h zero = refl
-short-item next h (suc m) = refl
-
-pub items-take : (next : List ℕ) (heads : List (Option Head)) (name : ℕ) (h : Head) → items_of next (slice_set heads name (shortened (at next h.first) h)) ≡ slice_set (items_of next heads) name (left_of h.lent (walk next h.more (at next h.first)))
-items-take next heads name h =
-    map-set (option_map (item_of next)) heads name (shortened (at next h.first) h)
-    ∙ ap (λ (o : Option Item). slice_set (items_of next heads) name o) (short-item next h h.more)
-
-pub resting-weighs : (o : Option Resting) → resting_one o ≤ resting_weight o
-resting-weighs None = omega arith
-resting-weighs (Some r) = omega arith
-
--- the first frame of an item aside
-pub sound-rest : (c : Columns) (resting : List (Option Resting)) (count left l : ℕ) (r : Resting) → IsSound c resting count → slice_get resting l ≡ Some (Some r) → left + 1 ≡ count + resting_one (rested (at c.next r.first) r r.more) → IsSound (with_held c r.first None) (slice_set resting l (rested (at c.next r.first) r r.more)) left
-sound-rest c resting count left l r s there counts =
-    let run = s.aside l r there in
-    let held = one-held (slice_get c.places r.first) run.own.0.0 in
-    let rest = rested (at c.next r.first) r r.more in
-    let less_places = set-sum place_weight c.places r.first (Some held.0) None held.1 in
-    let less_resting = set-sum resting_weight resting l (Some r) rest there in
-    let weight = rested-weight (at c.next r.first) r r.more in
-    let ones = set-sum resting_one resting l (Some r) rest there in
-    let none : Option Kept = None in
-    record {
-      fits = rw (set-length c.places r.first none) s.fits;
-      links = s.links ∙ sym (set-length c.places r.first None);
-      names = s.names ∙ sym (set-length c.places r.first None);
-      rests = set-length resting l rest ∙ s.rests ∙ sym (set-length c.places r.first None);
-      numbered = set-each (λ n (j : Kept). j.buffer.number ≡ n) c.places r.first None (slice_get_within c.places r.first (Some held.0) held.1) (λ j is. absurd cc) (λ n j differs at. s.numbered n j at);
-      owner = s.owner;
-      runs = λ n g at. run-apart c.places c.next s.owner (2 * l + 1) (2 * n) r.first g (even-odd n l) run.own.0.1 (s.runs n g at);
-      aside = set-each (λ n g. IsRun (slice_set c.places r.first None) c.next s.owner (2 * n + 1) (resting_head n g)) resting l rest (slice_get_within resting l (Some r) there)
-          (λ g is. run-rested c.places c.next s.owner (2 * l + 1) l r r.more refl run g is)
-          (λ n g differs at. run-apart c.places c.next s.owner (2 * l + 1) (2 * n + 1) r.first (resting_head n g) (odd-differs n l differs) run.own.0.1 (s.aside n g at));
-      few = omega (arith, s.few, less_places, less_resting, weight);
-      counted = omega (arith, s.counted, ones, counts);
-    }
-
--- ---- an item that moves aside
-
-abbrev moved-owner : (owner : ℕ → ℕ) (key to : ℕ) → ℕ → ℕ
-moved-owner owner key to f = cond (owner f == key) to (owner f)
-
-own-moved : (places : List (Option Kept)) (owner : ℕ → ℕ) (key to f : ℕ) → IsOwn places owner key f → IsOwn places (moved-owner owner key to) to f
-own-moved places owner key to f own = (own.0, rw (eq-eqb (owner f) key own.1) refl)
-
-own-stays : (places : List (Option Kept)) (owner : ℕ → ℕ) (key to n f : ℕ) → n ≢ key → IsOwn places owner n f → IsOwn places (moved-owner owner key to) n f
-own-stays places owner key to n f differs own =
-    let other : owner f ≢ key = λ e. differs (sym own.1 ∙ e) in
-    (own.0, rw (ne_eqb (owner f) key other) own.1)
-
-run-stays : (places : List (Option Kept)) (next : List ℕ) (owner : ℕ → ℕ) (key to n : ℕ) (h : Head) → n ≢ key → IsRun places next owner n h → IsRun places next (moved-owner owner key to) n h
-run-stays places next owner key to n h differs r = record {
-  own = All-each (IsOwn places owner n) (IsOwn places (moved-owner owner key to) n) (frames_of (item_of next h)) (λ f o. own-stays places owner key to n f differs o) r.own;
-  differ = r.differ;
-  last = r.last;
-}
-
--- nothing stands aside at the last frame of an item that a name stands for
-pub nothing-aside : (c : Columns) (resting : List (Option Resting)) (count name : ℕ) (h : Head) → IsSound c resting count → slice_get c.heads name ≡ Some (Some h) → slice_get resting h.last ≡ Some None
-nothing-aside c resting count name h s there =
-    let own = last-own c.places c.next s.owner (2 * name) h (s.runs name h there) in
-    let lt : h.last < length resting = omega (arith, held-within c.places h.last own.0, s.rests) in
-    by-what c resting count h.last name s own.1 (slice_get resting h.last) refl (not-past resting h.last lt)
-  where
-    by-what : (c : Columns) (resting : List (Option Resting)) (count l name : ℕ) (s : IsSound c resting count) → s.owner l ≡ 2 * name → (o : Option (Option Resting)) → slice_get resting l ≡ o → o ≢ None → o ≡ Some None
-    by-what c resting count l name s own None is there = absurd (there refl)
-    by-what c resting count l name s own (Some None) is there = refl
-    by-what c resting count l name s own (Some (Some r)) is there =
-        let its = last-own c.places c.next s.owner (2 * l + 1) (resting_head l r) (s.aside l r is) in
-        absurd (odd-even l name (sym its.1 ∙ own))
-
-pub count-fits : (c : Columns) (resting : List (Option Resting)) (count name : ℕ) (h : Head) → IsSound c resting count → slice_get c.heads name ≡ Some (Some h) → count + 1 < 2 ^ 32
-count-fits c resting count name h s there =
-    let one = set-sum head_weight c.heads name (Some h) None there in
-    omega (arith, one, all-fit c resting count s, s.counted, ones resting)
-  where
-    ones : (rs : List (Option Resting)) → sum_by resting_one rs ≤ sum_by resting_weight rs
-    ones [] = omega arith
-    ones (o ∷ rs) =
-        let a = sum_by-cons resting_one o rs in
-        let b = sum_by-cons resting_weight o rs in
-        omega (arith, a, b, resting-weighs o, ones rs)
-
-abbrev pub resting_of : ℕ → ℕ → Head → Resting
-resting_of name serial h = record { name = name; first = h.first; more = h.more; serial = serial }
-
-pub sound-aside : (c : Columns) (resting : List (Option Resting)) (count name serial : ℕ) (h : Head) → IsSound c resting count → slice_get c.heads name ≡ Some (Some h) → IsSound (with_head c name None) (slice_set resting h.last (Some (resting_of name serial h))) (count + 1)
-sound-aside c resting count name serial h s there =
-    let run = s.runs name h there in
-    let r = resting_of name serial h in
-    let spare = nothing-aside c resting count name h s there in
-    let none : Option Head = None in
-    let less_heads = set-sum head_weight c.heads name (Some h) none there in
-    let more_resting = set-sum resting_weight resting h.last None (Some r) spare in
-    let ones = set-sum resting_one resting h.last None (Some r) spare in
-    let to = 2 * h.last + 1 in
-    record {
-      fits = s.fits;
-      links = s.links;
-      names = set-length c.heads name None ∙ s.names;
-      rests = set-length resting h.last (Some r) ∙ s.rests;
-      numbered = s.numbered;
-      owner = moved-owner s.owner (2 * name) to;
-      runs = set-each (λ n g. IsRun c.places c.next (moved-owner s.owner (2 * name) to) (2 * n) g) c.heads name None (slice_get_within c.heads name (Some h) there)
-          (λ g is. absurd cc)
-          (λ n g differs at. run-stays c.places c.next s.owner (2 * name) to (2 * n) g (even-differs n name differs) (s.runs n g at));
-      aside = set-each (λ n g. IsRun c.places c.next (moved-owner s.owner (2 * name) to) (2 * n + 1) (resting_head n g)) resting h.last (Some r) (slice_get_within resting h.last None spare)
-          (λ g is. let same : r ≡ g = cc in subst (λ e. IsRun c.places c.next (moved-owner s.owner (2 * name) to) to (resting_head h.last e)) same (record {
-            own = All-each (IsOwn c.places s.owner (2 * name)) (IsOwn c.places (moved-owner s.owner (2 * name) to) to) (frames_of (item_of c.next h)) (λ f o. own-moved c.places s.owner (2 * name) to f o) run.own;
-            differ = run.differ;
-            last = run.last;
-          }))
-          (λ n g differs at. run-stays c.places c.next s.owner (2 * name) to (2 * n + 1) (resting_head n g) (odd-even n name) (s.aside n g at));
-      few = omega (arith, s.few, less_heads, more_resting);
-      counted = omega (arith, s.counted, ones);
-    }
 
 -- ---- the opening
 

@@ -14,7 +14,8 @@ use Rattle.item_book.specs.Links.{at, walk}
 use Rattle.item_book.specs.Runs.{Head, Columns, columns_of, empty_columns, state_head, with_held, with_head, named, lent_head, shortened, rested, head_on, head_as, link_on, run_of, item_of, items_of, aside_of_resting, asides_of, shelf_of_columns, run_of_item, IsSound}
 use Rattle.item_book.proofs.Sets.{map-set}
 use Rattle.item_book.proofs.CellWrites.{head-read, head-within}
-use Rattle.item_book.proofs.Items.{item-head, item-there, flat-some, items-put, items-join, asides-join, items-lend, items-take, joined_columns, images-empty}
+use Rattle.item_book.proofs.Items.{item-head, item-there, flat-some, items-put, items-join, asides-join, items-lend, joined_columns, images-empty}
+use Rattle.item_book.proofs.TakenItems.{items-take}
 use Rattle.item_book.proofs.Found.{aside-image, named-run, run-some, as-on}
 
 shelf-same : (peer : ℕ) (places : List (Option Kept)) (items items' : List (Option Item)) (aside aside' : List (Option Aside)) → items ≡ items' → aside ≡ aside' → ◌≡◌ {A = Shelf} (record { peer = peer; places = places; items = items; aside = aside }) (record { peer = peer; places = places; items = items'; aside = aside' })

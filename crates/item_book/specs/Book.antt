@@ -1,5 +1,6 @@
 -- The book of a domain's buffers: which of each peer's buffers are held, in which items, and whether those are in a queue or lent.
--- Source: docs/PROFILE.md, "A domain". A message or packet that a domain took and keeps is an item. It is in a queue or lent; after that its buffers are given back, oldest first.
+-- Source: docs/PROFILE.md, "A domain". A message or packet that a domain took and keeps is an item. It is in a queue or lent; after that its
+-- buffers are given back, oldest first.
 use Rattle.std.specs.Prelude.{◌≡◌, ◌≢◌, ℕ, suc, ◌+◌, ◌*◌, ◌%◌, ◌^◌, Bool, true, List, [], ◌∷◌, ◌++◌, map, take, drop, replicate, length, sum_by, find, ◌==◌, slice_get, slice_set, Option, None, Some, option_and_then, option_map, is_some, is_none, position, if◌then◌else◌, false, ◌&&◌}
 use Rattle.std.specs.List.{AllByRecursion}
 use Rattle.std.specs.Option.{option_or}
@@ -21,7 +22,8 @@ kept_in_buffer buffer start size = record { buffer = buffer; start = start; size
 abbrev pub content : Kept → List ℕ
 content k = take k.size (drop k.start k.buffer.bytes)
 
--- a message or packet: the numbers of its buffers that are still held, oldest first, and the serial under which it is lent, or none where it is in a queue.
+-- a message or packet: the numbers of its buffers that are still held, oldest first, and the serial under which it is lent, or none where it
+-- is in a queue.
 -- Its name is the number of the first buffer that it had; that one may be given back before the others
 pub record Item : Type 0 where
   pub lent : Option ℕ
@@ -289,7 +291,8 @@ pub record AreFrames (places : List (Option Kept)) (owner : ℕ → ℕ) (key : 
   pub own : AllByRecursion (λ f. owner f ≡ key) (frames_of i)
   pub differ : Differ (frames_of i)
 
--- each frame of an item is held, and in no other item. `owner` tells the item of each held buffer: 2 n for the one of the name n, and 2 l + 1 for the one aside whose last buffer is l
+-- each frame of an item is held, and in no other item. `owner` tells the item of each held buffer: 2 n for the one of the name n, and 2 l + 1
+-- for the one aside whose last buffer is l
 pub record HoldsOnce (s : Shelf) : Type 0 where
   pub names : length s.items ≡ length s.places
   pub asides : length s.aside ≡ length s.places

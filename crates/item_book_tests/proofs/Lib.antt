@@ -1,1 +1,1 @@
-mod Withdrawing
+mod Withdrawals

@@ -2,4 +2,10 @@
 #![tactic(auto)]
 
 #[cfg(test)]
-mod books;
+mod frames;
+#[cfg(test)]
+mod lending;
+#[cfg(test)]
+mod steps;
+#[cfg(test)]
+mod withdrawing;

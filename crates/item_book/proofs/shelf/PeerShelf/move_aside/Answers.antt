@@ -2,7 +2,8 @@ use Rattle.std.proofs.Common.{◌≡◌, ◌∙◌, ◌+◌, ap, sym, subst, Som
 use Rattle.std.specs.Prelude.{option_map, slice_set}
 use Rattle.item_book.specs.Book.{Shelf, Item, moved_aside, item_on}
 use Rattle.item_book.specs.Runs.{Columns, columns_of, shelf_of_columns, IsSound}
-use Rattle.item_book.proofs.Items.{sound-aside, count-fits, last-within}
+use Rattle.item_book.proofs.AsideItems.{sound-aside, count-fits}
+use Rattle.item_book.proofs.Items.{last-within}
 use Rattle.item_book.proofs.ShelfItems.{lent-there, lent_from_cell, shelf-aside}
 use Rattle.item_book.proofs.shelf.PeerShelf.move_aside.Goals as goal
 

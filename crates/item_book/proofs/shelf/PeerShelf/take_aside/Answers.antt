@@ -6,7 +6,8 @@ use Rattle.item_book.specs.Book.{Shelf, Item, item_aside, kept_on_place, frame_o
 use Rattle.item_book.specs.Links.{at}
 use Rattle.item_book.specs.Runs.{Columns, columns_of, with_held, aside_of_resting, rested, resting_one, shelf_of_columns, IsSound}
 use Rattle.item_book.proofs.Walks.{length-walk}
-use Rattle.item_book.proofs.Items.{sound-rest, flat-some, aside-counts}
+use Rattle.item_book.proofs.TakenItems.{sound-rest}
+use Rattle.item_book.proofs.Items.{flat-some, aside-counts}
 use Rattle.item_book.proofs.Found.{not-none}
 use Rattle.item_book.proofs.ShelfItems.{within-aside, aside-at, found-aside, shelf-rested}
 use Rattle.item_book.proofs.shelf.PeerShelf.take_aside.Goals as goal

@@ -2,7 +2,7 @@ use Rattle.std.proofs.Common.{◌≡◌, ◌∙◌, ℕ, Some, refl, ap, sym, su
 use Rattle.std.specs.Prelude.{IsSome, option_map}
 use Rattle.item_book.specs.Book.{Shelf, taken_named, item_on, kept_on_place}
 use Rattle.item_book.specs.Runs.{Columns, columns_of, head_on, run_of_item, shelf_of_columns, IsSound}
-use Rattle.item_book.proofs.Items.{sound-take}
+use Rattle.item_book.proofs.TakenItems.{sound-take}
 use Rattle.item_book.proofs.ShelfItems.{run-head, known-head, shelf-taken, taken-columns}
 use Rattle.item_book.proofs.shelf.PeerShelf.take_named.Goals as goal
 
