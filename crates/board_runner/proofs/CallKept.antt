@@ -1,5 +1,5 @@
 -- What a call of a domain leaves on the lanes.
-use Rattle.std.proofs.Common.{◌≡◌, ℕ, cond, List, ◌∷◌, length, map, Option, Some, refl, sym, ap, ◌∙◌, subst}
+use Rattle.std.proofs.Common.{◌≡◌, ℕ, cond, List, length, map, Option, Some, refl, sym, ap, ◌∙◌, subst}
 use Rattle.std.specs.Prelude.{◌==◌, slice_get, slice_set}
 use Rattle.std.specs.List.{AllByRecursion}
 use Rattle.mc_base.specs.declared.request.RequestId.{RequestId}

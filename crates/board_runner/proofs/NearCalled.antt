@@ -1,5 +1,5 @@
 -- One call at a domain's ends towards a peer: what the domain did there after it, by what it did before.
-use Rattle.std.proofs.Common.{◌≡◌, ℕ, ◌+◌, ◌≤◌, Bool, true, false, cond, List, [], ◌∷◌, ◌++◌, length, map, flat_map, sum, filter, refl, sym, ap, ◌∙◌, subst, inl, inr, arith, append-nil, length-append, eqb-true, eq-eqb, ne_eqb, true≢false}
+use Rattle.std.proofs.Common.{◌≡◌, ℕ, ◌+◌, ◌≤◌, Bool, true, false, cond, List, [], ◌∷◌, ◌++◌, length, map, sum, filter, refl, sym, ap, ◌∙◌, subst, inl, inr, arith, append-nil, length-append, eqb-true, eq-eqb, ne_eqb, true≢false}
 use Rattle.std.specs.Prelude.{◌==◌}
 use Rattle.std.proofs.lemmas.List.{length-map}
 use Rattle.lane_end.specs.Halves.{IsRingSend, IsRingRecv}

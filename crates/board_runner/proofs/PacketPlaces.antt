@@ -1,5 +1,5 @@
 -- The packet that is held for a label is lent where the label's packet is.
-use Rattle.std.proofs.Common.{◌≡◌, ℕ, ◌+◌, ◌-◌, ◌<◌, ◌≤◌, ◌^◌, Bool, true, false, ◌&&◌, cond, List, [], ◌∷◌, Option, Some, None, position, option_map, option_and_then, refl, sym, ap, ap₂, ◌∙◌, arith, eq-eqb, eqb-true}
+use Rattle.std.proofs.Common.{◌≡◌, ℕ, ◌+◌, ◌-◌, ◌<◌, ◌^◌, Bool, true, false, ◌&&◌, cond, List, [], ◌∷◌, Option, Some, None, position, option_map, option_and_then, refl, sym, ap, ap₂, ◌∙◌, arith, eq-eqb, eqb-true}
 use Rattle.std.specs.Prelude.{◌==◌, unwrap_or, IfSome}
 use Rattle.std.specs.List.{AllByRecursion, position_from}
 use Rattle.std.proofs.lemmas.Bool.{ne_eqb}
@@ -12,7 +12,7 @@ use Rattle.domain_core.specs.DomainView.{place_of_packet_id, has_packet_id}
 use Rattle.board_runner.specs.Held.{PacketIds, id_for, packet_or_none, no_packet}
 use Rattle.board_runner.specs.Near.{RunDomain}
 use Rattle.board_runner.specs.Stations.{IsKnownPacket, HoldsPackets}
-use Rattle.board_runner.proofs.SerialPackets.{packets, place_is}
+use Rattle.board_runner.proofs.SerialPackets.{place_is}
 
 -- no packet has the serial of no packet
 and_last : (a b c : Bool) → c ≡ false → (a && (b && c)) ≡ false

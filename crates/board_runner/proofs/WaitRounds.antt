@@ -1,5 +1,5 @@
 -- The rounds of a wait on a board that runs serially, and a line that waits as a whole.
-use Rattle.std.proofs.Common.{◌≡◌, ◌⊎◌, ℕ, zero, suc, ◌+◌, ◌-◌, ◌<◌, Bool, true, false, not, ◌||◌, cond, List, [], ◌∷◌, length, take, position, Some, None, Option, option_map, is_some, refl, sym, ap, ◌∙◌, subst, inl, inr, arith}
+use Rattle.std.proofs.Common.{◌≡◌, ℕ, zero, suc, ◌+◌, ◌<◌, Bool, true, false, not, cond, List, [], ◌∷◌, length, take, position, Some, None, Option, option_map, is_some, refl, sym, ap, ◌∙◌, subst, inl, inr, arith}
 use Rattle.std.specs.Prelude.{IsSome, slice_get}
 use Rattle.std.specs.List.{AllByRecursion, list_any}
 use Rattle.std.proofs.lemmas.Iterator.Adapters.{position_from-zero}
@@ -26,7 +26,7 @@ use Rattle.domain_core.specs.Waiting.{wait_on}
 use Rattle.board_runner.specs.declared.station.Station.{Station}
 use Rattle.board_runner.specs.Runs.{AllCarried, At, CountsFit, DropsFit, IsNext, IsSomeNext, IsSomeRun, KeepCounts, Leads, RunsLine, TurnsOnce}
 use Rattle.board_runner.specs.Stations.{IsRun}
-use Rattle.board_runner.specs.Waits.{HasSettled, HasTested, RoundsUntil, TestsWait, TimesOut, TurnsAll, ids_named, says_place}
+use Rattle.board_runner.specs.Waits.{HasSettled, HasTested, RoundsUntil, TestsWait, TimesOut, TurnsAll, ids_named}
 use Rattle.board_runner.proofs.OthersLemmas.{all_turned-append, board_numbers, number_at, some_turned, take-all, take-more}
 use Rattle.board_runner.proofs.StationCounts.{at_place}
 use Rattle.board_runner.proofs.StationLemmas.{domains_rise, item_at, numbers_are}

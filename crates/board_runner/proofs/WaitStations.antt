@@ -1,5 +1,5 @@
 -- A station whose next line waits: its wait begins, ends, or does nothing.
-use Rattle.std.proofs.Common.{◌≡◌, ℕ, ◌+◌, Bool, true, false, not, List, [], ◌∷◌, ◌++◌, length, map, Option, Some, None, option_map, option_to_list, sum_by, refl, sym, ap, ap₂, ◌∙◌, subst, arith, append-nil, true≢false}
+use Rattle.std.proofs.Common.{◌≡◌, ℕ, ◌+◌, Bool, true, false, List, [], ◌∷◌, ◌++◌, length, map, Option, Some, None, option_map, option_to_list, sum_by, refl, sym, ap, ap₂, ◌∙◌, subst, arith, append-nil, true≢false}
 use Rattle.std.specs.Prelude.{◌≤◌, IfSome, IsSome}
 use Rattle.std.proofs.lemmas.List.Sums.{sum_by-cons}
 use Rattle.mc_base.specs.declared.refusal.Refusal.TheVariants.{Timeout}

@@ -17,7 +17,6 @@ use Rattle.board_model.specs.declared.scenario.Scenario.{Scenario}
 use Rattle.board_model.specs.Journal.{Line, refuses}
 use Rattle.board_model.specs.Language.{IsLawfulBoard}
 use Rattle.board_model.specs.Step.{is_timeout}
-use Rattle.board_model.specs.SerialRun as run
 use Rattle.board_model.specs.SerialRun.{Running, all_turned, is_waiting_at, last_call, numbers, rounds, station_of, with_beginning}
 use Rattle.domain_core.specs.declared.WaitFault.{WaitFault}
 use Rattle.domain_core.specs.declared.WaitFault.TheVariants as fault

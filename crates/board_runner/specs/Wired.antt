@@ -1,6 +1,6 @@
 -- The links of a board over rings: which ends each domain has, by the lines of the links and their rings.
 -- Source: docs/PROFILE.md, "Boards" and "Lanes": queue 1 leads from the driver of a link to its device, and queue 0 back.
-use Rattle.std.specs.Prelude.{◌≡◌, ◌≢◌, ◌≤◌, ℕ, zero, suc, Bool, ◌&&◌, ◌==◌, List, [], ◌∷◌, ◌++◌, length, map, filter, find, Option, Some, option_map, option_to_list, vec_capacity, not}
+use Rattle.std.specs.Prelude.{◌≡◌, ◌≤◌, ℕ, zero, suc, Bool, ◌&&◌, ◌==◌, List, [], ◌∷◌, ◌++◌, length, map, filter, find, Option, Some, option_map, option_to_list, vec_capacity, not}
 use Rattle.std.specs.List.{AllByRecursion}
 use Rattle.shared_words.specs.Shape.{IsRingSize}
 use Rattle.shared_words.specs.Shown.{TableShown, size_of}

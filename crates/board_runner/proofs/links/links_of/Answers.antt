@@ -1,4 +1,4 @@
-use Rattle.std.proofs.Common.{◌≡◌, ◌∙◌, ◌<◌, ◌≢◌, List, None, Some, length, ap, subst, arith, vec_len, vec_capacity}
+use Rattle.std.proofs.Common.{◌≡◌, ◌∙◌, ◌<◌, List, None, Some, length, ap, subst, arith, vec_len, vec_capacity}
 use Rattle.std.specs.Prelude.{position}
 use Rattle.board_runner.specs.declared.wires.Wire.{Wire}
 use Rattle.board_runner.specs.Wired.{leads_from, links_wired}

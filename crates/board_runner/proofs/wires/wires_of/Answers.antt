@@ -1,4 +1,4 @@
-use Rattle.std.proofs.Common.{◌≡◌, ◌∙◌, ◌+◌, ◌++◌, ◌<◌, ℕ, false, true≢false, nat_lt, List, [], ◌∷◌, drop, length, rules, refl, arith, sym, ap, subst, append-nil}
+use Rattle.std.proofs.Common.{◌≡◌, ◌∙◌, ◌++◌, ◌<◌, ℕ, false, true≢false, nat_lt, List, [], ◌∷◌, drop, length, rules, refl, arith, sym, ap, subst, append-nil}
 use Rattle.std.proofs.lemmas.Bool.{lt-ltb}
 use Rattle.std.proofs.lemmas.Option.{get_or_from_slice_get, slice_get_within}
 use Rattle.board_runner.specs.declared.rings.LinkHalves.{LinkHalves}

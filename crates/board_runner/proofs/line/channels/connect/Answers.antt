@@ -1,4 +1,4 @@
-use Rattle.std.proofs.Common.{refl, ◌∙◌, arith, ◌+◌}
+use Rattle.std.proofs.Common.{refl, arith, ◌+◌}
 use Rattle.board_model.specs.DomainCall.{connect_from}
 use Rattle.board_runner.proofs.LineLemmas.{calls_domain, gives_connected, lends_none}
 use Rattle.board_runner.proofs.line.channels.connect.Goals as goal

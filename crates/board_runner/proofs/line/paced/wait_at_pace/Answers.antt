@@ -1,4 +1,4 @@
-use Rattle.std.proofs.Common.{Bool, true, false, sym, subst, arith}
+use Rattle.std.proofs.Common.{Bool, sym, subst, arith}
 use Rattle.mc_journal.specs.Entry.{plain_answer}
 use Rattle.board_runner.specs.declared.station.Station.{Station}
 use Rattle.board_runner.specs.Waits.{EndsAtOnce, ids_named}

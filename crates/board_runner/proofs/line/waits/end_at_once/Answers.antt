@@ -1,4 +1,4 @@
-use Rattle.std.proofs.Common.{◌≡◌, ap, ◌∙◌, sym, arith, refl}
+use Rattle.std.proofs.Common.{ap, ◌∙◌, sym, arith, refl}
 use Rattle.std.specs.Prelude.{not}
 use Rattle.mc_journal.specs.Entry.{plain_answer}
 use Rattle.board_runner.proofs.WaitLemmas.{wait-drops}

@@ -1,4 +1,4 @@
-use Rattle.std.proofs.Common.{◌≡◌, ap, length, arith}
+use Rattle.std.proofs.Common.{ap, length, arith}
 use Rattle.board_runner.proofs.WaitLemmas.{some-named}
 use Rattle.board_runner.proofs.line.waits.is_settled.Goals as goal
 

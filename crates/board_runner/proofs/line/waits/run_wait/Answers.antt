@@ -1,4 +1,4 @@
-use Rattle.std.proofs.Common.{◌≡◌, ℕ, ◌<◌, Bool, true, false, Option, length, refl, ◌∙◌, sym, subst, arith}
+use Rattle.std.proofs.Common.{ℕ, ◌<◌, Bool, Option, length, refl, ◌∙◌, sym, subst, arith}
 use Rattle.std.specs.Prelude.{IsSome}
 use Rattle.board_runner.specs.Waits.{CountsTest, RoundsUntil, TestsWait}
 use Rattle.board_runner.proofs.StationCounts.{one_line_after}

@@ -1,4 +1,4 @@
-use Rattle.std.proofs.Common.{◌∷◌, arith, ap, length}
+use Rattle.std.proofs.Common.{arith, ap, length}
 use Rattle.board_runner.proofs.WaitLemmas.{some-named}
 use Rattle.board_runner.proofs.line.waits.wait_for.Goals as goal
 
