@@ -1,2 +1,4 @@
 pub mod Statuses
 pub mod RefusedCalls
+pub mod Words
+pub mod Asked

@@ -1,7 +1,6 @@
 -- The calls of a report that were refused: where they stand, and what is written of them.
 -- Source: docs/FORMATS.md, "Journal text".
-use Rattle.std.specs.Prelude.{◌≡◌, ℕ, true, List, [], ◌∷◌, ◌++◌, map, length, codes, decimal, ◌==◌, if◌then◌else◌, string_bytes, String, Option, Ok}
-use Rattle.std.specs.Global.{Global}
+use Rattle.std.specs.Prelude.{◌≡◌, ℕ, true, List, [], ◌∷◌, ◌++◌, map, length, codes, decimal, ◌==◌, if◌then◌else◌, Option, Ok}
 use Rattle.std.specs.Io.KnownBytes.{Appends}
 use Rattle.std.specs.List.{flat_map}
 use Rattle.report_text.specs.declared.outline.Outline.{Outline}
@@ -56,7 +55,3 @@ pub record ShowsRefused (report : List ℕ) (status : ℕ) (old new : Option (Li
   pub text : List ℕ
   pub lists : ListsRefused view.domains.items status text
   pub written : Appends old new text
-
--- the words ask for that
-abbrev pub asks_refused : List (String Global) → Type 0
-asks_refused words = map (λ w. string_bytes w) words ≡ codes "refused" ∷ []

@@ -1,6 +1,6 @@
 -- With which status the program ends, and what was written then.
 -- Source: docs/FORMATS.md, "Statuses".
-use Rattle.std.specs.Prelude.{◌≡◌, ◌≢◌, ◌≤◌, ℕ, List}
+use Rattle.std.specs.Prelude.{◌≡◌, ◌≢◌, ◌≤◌, ◌⊎◌, ℕ, List}
 use Rattle.std.specs.Io.KnownBytes.{Appends}
 use Rattle.outer_io.specs.Faults.{Rose}
 use Rattle.outer_io.specs.Writes.{AppendsPart}
@@ -13,6 +13,12 @@ pub record Writes {K : Type 0} (sink : SinkGhosts K) (status : ℕ) (old new : K
   pub part : status ≡ 5 → (text : List ℕ) × AppendsPart (sink.written old) (sink.written new) text
   pub failed : status ≡ 5 → Rose (sink.faults old) (sink.faults new)
   pub quiet : status ≢ 5 → sink.faults new ≡ sink.faults old
+
+-- this text was written whole, with the status `done`, or breaks off, with 5
+pub record WritesThis {K : Type 0} (sink : SinkGhosts K) (text : List ℕ) (done status : ℕ) (old new : K) : Type 0 where
+  pub statuses : (status ≡ done) ⊎ (status ≡ 5)
+  pub whole : status ≡ done → Appends (sink.written old) (sink.written new) text
+  pub part : status ≡ 5 → AppendsPart (sink.written old) (sink.written new) text
 
 -- what is done with an input that was read: the status is 0, 1, 3, 5 or 6, and nothing is written at 6
 pub record Shows {K : Type 0} (sink : SinkGhosts K) (status : ℕ) (old new : K) : Type 0 where

@@ -1,46 +1,89 @@
-//! The forms of the program.
+//! The forms of the program, as the rows of a table: the word of each, and the options that it takes.
 
-ghost use Rattle.std.specs.Prelude.{◌≡◌, Some, codes, string_bytes};
-ghost use Rattle.view_cli.specs.RefusedCalls.{asks_refused};
-ghost use Rattle.view_cli.specs.declared.form.Form.TheVariants.{Refused};
+ghost use Rattle.std.specs.Prelude.{◌≡◌};
+ghost use Rattle.view_cli.specs.Words.{form_in, forms, option_in, options_of as options_taken, text_of_option, word_of};
 
-use crate::filter::{Filter, filter_of};
-
-/// What the program is to show of a report.
-#[derive(Clone, Copy)]
+/// What the program shows of a report.
+#[derive(Clone, Copy, Debug)]
 pub enum Form {
     /// `refused`: the calls that were refused, one a line.
     Refused,
     /// `text`: what each domain did, in words.
-    Text(Filter),
+    Text,
 }
 
-/// The form that the words are, or `None` where they are none.
-pub fn form_of(words: &[String]) -> Option<Form>
-    ensures { asks_refused words.now → result ≡ Some Refused }
+/// An option of a form.
+#[derive(Clone, Copy, Debug)]
+pub enum OptionName {
+    /// `--domain D`: the calls of a domain.
+    Domain,
+    /// `--channel D N`: the calls with a frame of the channel that domain D numbers N.
+    Channel,
+    /// `--line K`: the call of a line of the report.
+    Line,
+    /// `--refused`: the calls that were refused.
+    Refused,
+}
+
+/// Returns the word of a form.
+fn form_word(form: Form) -> &'static [u8]
+    ensures { result.now ≡ word_of form }
 {
-    match words {
-        [] => None,
-        [word] => word_form(word),
-        [word, options @ ..] => text_form(word, options),
+    match form {
+        Form::Refused => b"refused",
+        Form::Text => b"text",
     }
 }
 
-/// The form of one word.
-fn word_form(word: &String) -> Option<Form>
-    ensures { string_bytes word.now ≡ codes "refused" → result ≡ Some Refused }
+fn all_forms() -> &'static [Form]
+    ensures { result.now ≡ forms }
 {
-    if word.as_str() == "refused" {
-        Some(Form::Refused)
-    } else {
-        text_form(word, &[])
+    &[Form::Refused, Form::Text]
+}
+
+/// Returns the options that a form takes.
+fn options_of(form: Form) -> &'static [OptionName]
+    ensures { result.now ≡ options_taken form }
+{
+    match form {
+        Form::Refused => &[],
+        Form::Text => &[
+            OptionName::Domain,
+            OptionName::Channel,
+            OptionName::Line,
+            OptionName::Refused,
+        ],
     }
 }
 
-/// The form of a word with options.
-fn text_form(word: &String, options: &[String]) -> Option<Form> {
-    if word.as_str() == "text" {
-        return Some(Form::Text(filter_of(options)?));
+/// Returns the word of an option.
+fn option_word(option: OptionName) -> &'static [u8]
+    ensures { result.now ≡ text_of_option option }
+{
+    match option {
+        OptionName::Domain => b"--domain",
+        OptionName::Channel => b"--channel",
+        OptionName::Line => b"--line",
+        OptionName::Refused => b"--refused",
     }
-    None
+}
+
+/// Returns the form of a word, or `None` where it is that of no form.
+pub fn form_named(word: &[u8]) -> Option<Form>
+    ensures { result ≡ form_in word.now }
+{
+    all_forms()
+        .iter()
+        .copied()
+        .find(|form| form_word(*form) == word)
+}
+
+/// Returns the option of a word, or `None` where the form takes no option of this word.
+pub fn option_named(form: Form, word: &[u8]) -> Option<OptionName>
+    ensures { result ≡ option_in form word.now }
+{
+    options_of(form)
+        .iter()
+        .copied()
+        .find(|option| option_word(*option) == word)
 }

@@ -1,11 +1,14 @@
-ghost use Rattle.std.specs.Prelude.{◌≡◌, ◌<◌, ◌≤◌, ℕ, IfSome, List, length};
+ghost use Rattle.std.specs.Prelude.{◌≡◌, ◌≢◌, ◌<◌, ◌≤◌, ℕ, IfSome, List, None, Some, length};
 ghost use Rattle.std.specs.Io.KnownBytes.{Appends};
 ghost use Rattle.report_view.specs.Texts.{PutsText, WritesText};
-ghost use Rattle.view_cli.specs.RefusedCalls.{ListsRefused, ShowsRefused, asks_refused};
-ghost use Rattle.view_cli.specs.Statuses.{Ends, Shows};
+ghost use Rattle.view_cli.specs.Asked.{asked_by, form_asked};
+ghost use Rattle.view_cli.specs.RefusedCalls.{ListsRefused, ShowsRefused};
+ghost use Rattle.view_cli.specs.Statuses.{Ends, Shows, WritesThis};
+ghost use Rattle.view_cli.specs.Words.{usage_text, words_of};
 ghost use Rattle.view_cli.specs.declared.form.Form.TheVariants.{Refused};
 
-use crate::form::{Form, form_of};
+use crate::asked::{Asked, read_asked};
+use crate::form::Form;
 use crate::refused::tell_refused;
 use crate::status::{self, after_write};
 use crate::text::tell_text;
@@ -17,7 +20,7 @@ use std::alloc::Global;
 /// The most bytes of a report.
 const REPORT_LIMIT: usize = 268_435_456;
 
-/// What is written where the words are none of the forms.
+/// What is written where the words are those of no form.
 const USAGE: &[u8] =
     b"usage: mcview refused | text [--domain D] [--channel D N] [--line K] [--refused]\n";
 
@@ -27,7 +30,7 @@ const USAGE: &[u8] =
 /// domain's script, the line, and behind a colon the word of the refusal. The form `text` writes what each domain did for each line of its
 /// script, in words. Its options keep the calls of a domain, those with a frame of a channel, that of a line, or those that were refused.
 ///
-/// The statuses are 0 where the output was written, 1 where `refused` wrote a line, 2 where the words are none of the forms and the usage was
+/// The statuses are 0 where the output was written, 1 where `refused` wrote a line, 2 where the words are those of no form and the usage was
 /// written, 3 where the input is no report and its first wrong line was written, 4 where a read failed, 5 where a write failed, 6 where an
 /// allocation failed, and 7 where the input has more than 268,435,456 bytes.
 pub fn mcview<S: Source, K: Sink>(
@@ -36,22 +39,31 @@ pub fn mcview<S: Source, K: Sink>(
     input: &mut S,
     output: &mut K,
 ) -> u8
+    // Of any words: the statuses that there are; 4 and 5 exactly where a read or a write failed; nothing is written at 4, 6 and 7.
     ensures ends { Ends S.Source K.Sink result input.old input.new output.old output.new }
-    ensures refused { asks_refused words.now → result ≤ 1 → IfSome (S.rest input.old) (λ report. ShowsRefused report result (K.written output.old) (K.written output.new)) }
+
+    // The words of `refused`: the calls of the report that were refused, each once and in order.
+    ensures refused { form_asked (words_of words.now) ≡ Some Refused → result ≤ 1 → IfSome (S.rest input.old) (λ report. ShowsRefused report result (K.written output.old) (K.written output.new)) }
+
+    // Words of no form, for which nothing is read: the usage. 2 comes with them alone.
+    ensures usage { asked_by (words_of words.now) ≡ None → WritesThis K.Sink usage_text 2 result output.old output.new }
+    ensures usage_reads_nothing { asked_by (words_of words.now) ≡ None → input.new ≡ input.old }
+    ensures usage_words { result ≡ 2 → asked_by (words_of words.now) ≡ None }
 {
-    match form_of(words) {
-        Some(form) => with_input(alloc, form, input, output),
+    match read_asked(words) {
+        Some(asked) => with_input(alloc, asked, input, output),
         None => after_write(write_all(output, USAGE), status::USAGE),
     }
 }
 
 /// Reads a report, and shows it. Returns the status.
-fn with_input<S: Source, K: Sink>(alloc: Global, form: Form, input: &mut S, output: &mut K) -> u8
+fn with_input<S: Source, K: Sink>(alloc: Global, asked: Asked, input: &mut S, output: &mut K) -> u8
     ensures ends { Ends S.Source K.Sink result input.old input.new output.old output.new }
-    ensures refused { form ≡ Refused → result ≤ 1 → IfSome (S.rest input.old) (λ report. ShowsRefused report result (K.written output.old) (K.written output.new)) }
+    ensures form { result ≢ 2 }
+    ensures refused { asked.form ≡ Refused → result ≤ 1 → IfSome (S.rest input.old) (λ report. ShowsRefused report result (K.written output.old) (K.written output.new)) }
 {
     match read_all(alloc, input, REPORT_LIMIT) {
-        Ok(report) => with_report(alloc, form, &report, output),
+        Ok(report) => with_report(alloc, asked, &report, output),
         Err(ReadFault::Failed) => status::READ_FAILED,
         Err(ReadFault::TooLong) => status::TOO_LONG,
         Err(ReadFault::NoMemory) => status::NO_MEMORY,
@@ -59,26 +71,26 @@ fn with_input<S: Source, K: Sink>(alloc: Global, form: Form, input: &mut S, outp
 }
 
 /// Shows a report, or writes its first wrong line. Returns the status.
-fn with_report<K: Sink>(alloc: Global, form: Form, report: &[u8], output: &mut K) -> u8
+fn with_report<K: Sink>(alloc: Global, asked: Asked, report: &[u8], output: &mut K) -> u8
     requires { length report.now < 4_294_967_295 }
     ensures shows { Shows K.Sink result output.old output.new }
-    ensures refused { form ≡ Refused → result ≤ 1 → ShowsRefused report.now result (K.written output.old) (K.written output.new) }
+    ensures refused { asked.form ≡ Refused → result ≤ 1 → ShowsRefused report.now result (K.written output.old) (K.written output.new) }
 {
     match read_view(alloc, report) {
-        Ok(view) => show(alloc, form, &view, output),
+        Ok(view) => show(alloc, asked, &view, output),
         Err(TextFault::Wrong { line }) => after_write(write_wrong(line, output), status::NO_REPORT),
         Err(TextFault::NoMemory) => status::NO_MEMORY,
     }
 }
 
 /// Shows what a report says. Returns the status.
-fn show<K: Sink>(alloc: Global, form: Form, view: &View<'_>, output: &mut K) -> u8
+fn show<K: Sink>(alloc: Global, asked: Asked, view: &View<'_>, output: &mut K) -> u8
     ensures shows { Shows K.Sink result output.old output.new }
-    ensures refused { form ≡ Refused → result ≤ 3 → (text : List ℕ) × ListsRefused view.now.domains.items result text × Appends (K.written output.old) (K.written output.new) text }
+    ensures refused { asked.form ≡ Refused → result ≤ 3 → (text : List ℕ) × ListsRefused view.now.domains.items result text × Appends (K.written output.old) (K.written output.new) text }
 {
-    match form {
+    match asked.form {
         Form::Refused => tell_refused(alloc, view, output),
-        Form::Text(filter) => tell_text(alloc, view, filter, output),
+        Form::Text => tell_text(alloc, view, asked.filter, output),
     }
 }
 

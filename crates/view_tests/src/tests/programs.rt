@@ -167,7 +167,7 @@ fn unfailing<'a>(words: &'a [&'a str], text: &'a [u8]) -> Given<'a> {
 /// Words and a text, and the status and the output that come of them.
 type Outcome<'a> = (&'a [&'a str], &'a str, u8, &'a str);
 
-static OUTCOMES: [Outcome<'static>; 18] = [
+static OUTCOMES: [Outcome<'static>; 24] = [
     (&["refused"], ONE_BUFFER, 1, ONE_BUFFER_REFUSED),
     (&["refused"], WAIT, 1, "6 0 2 0.0 wait far 3: timeout\n"),
     (&["text"], ONE_BUFFER, 0, ONE_BUFFER_TEXT),
@@ -193,6 +193,24 @@ static OUTCOMES: [Outcome<'static>; 18] = [
         "domain 3\n",
     ),
     (&["text", "--refused"], WAIT, 0, WAIT_TEXT),
+    // An option counts as it is given last.
+    (
+        &[
+            "text",
+            "--line",
+            "4",
+            "--refused",
+            "--domain",
+            "0",
+            "--line",
+            "5",
+            "--domain",
+            "3",
+        ],
+        ONE_BUFFER,
+        0,
+        ONE_BUFFER_LINE,
+    ),
     (&["text"], "", 3, "wrong 1 text\n"),
     (&["refused"], "mcapi-report 1 serial\n", 3, "wrong 2 text\n"),
     (&[], ONE_BUFFER, 2, USAGE),
@@ -201,6 +219,11 @@ static OUTCOMES: [Outcome<'static>; 18] = [
     (&["text", "--domain", "8"], ONE_BUFFER, 2, USAGE),
     (&["text", "--channel", "1"], ONE_BUFFER, 2, USAGE),
     (&["text", "--lines", "1"], ONE_BUFFER, 2, USAGE),
+    (&["text", "--line", "01"], ONE_BUFFER, 2, USAGE),
+    (&["text", "--line", "4294967296"], ONE_BUFFER, 2, USAGE),
+    (&["text", "--refused", "1"], ONE_BUFFER, 2, USAGE),
+    (&["--refused", "text"], ONE_BUFFER, 2, USAGE),
+    (&["Text"], ONE_BUFFER, 2, USAGE),
 ];
 
 #[test]

@@ -1,0 +1,252 @@
+//! What the words of the program ask for.
+
+ghost use Rattle.std.specs.Prelude.{◌≡◌, Some};
+ghost use Rattle.view_cli.specs.Asked.{asked_by, behind_option, number_to as number_in, of_channel, of_domain, of_line, unasked, whole as whole_of, word_as, words_read};
+ghost use Rattle.view_cli.specs.Words.{words_of};
+ghost use Rattle.view_cli.specs.declared.asked.Awaited.TheVariants as awaited;
+ghost use Rattle.view_cli.specs.declared.form.OptionName.TheVariants as named;
+
+use crate::filter::Filter;
+use crate::form::{Form, OptionName, form_named, option_named};
+use board_model::number_to;
+use report_view::Channel;
+
+/// A form, and which calls of a report it is to show.
+#[derive(Clone, Copy, Debug)]
+pub struct Asked {
+    pub form: Form,
+    pub filter: Filter,
+}
+
+/// What the next word is to be.
+#[derive(Clone, Copy, Debug)]
+enum Awaited {
+    /// An option, where one follows.
+    Option,
+    /// The number of a domain.
+    Domain,
+    /// The number of a line.
+    Line,
+    /// The number of a domain, and behind it that of a channel.
+    Channel,
+    /// The number of a channel of this domain.
+    ChannelOf { domain: u8 },
+}
+
+/// What is asked for by some words, and what the next one is to be.
+#[derive(Clone, Copy, Debug)]
+struct Reading {
+    asked: Asked,
+    awaited: Awaited,
+}
+
+/// What a form shows where no option is given.
+fn start(form: Form) -> Reading
+    ensures { result ≡ unasked form }
+{
+    let filter = Filter {
+        domain: None,
+        channel: None,
+        line: None,
+        refused: false,
+    };
+    Reading {
+        asked: Asked { form, filter },
+        awaited: Awaited::Option,
+    }
+}
+
+/// Returns the number that a word writes, if it is at most this one.
+fn number(most: u32, word: &[u8]) -> Option<u32>
+    ensures { result ≡ number_in most word.now }
+{
+    match number_to(u64::from(most), word) {
+        Some(number) => Some(number as u32),
+        None => None,
+    }
+}
+
+/// Returns the number of a domain that a word writes.
+fn domain_number(word: &[u8]) -> Option<u8>
+    ensures { result ≡ number_in 7 word.now }
+{
+    match number_to(7, word) {
+        Some(number) => Some(number as u8),
+        None => None,
+    }
+}
+
+/// Keeps the calls of a domain.
+fn with_domain(asked: Asked, domain: u8) -> Reading
+    ensures { result ≡ of_domain asked domain }
+{
+    let filter = Filter {
+        domain: Some(domain),
+        ..asked.filter
+    };
+    Reading {
+        asked: Asked { filter, ..asked },
+        awaited: Awaited::Option,
+    }
+}
+
+/// Keeps the call of a line.
+fn with_line(asked: Asked, line: u32) -> Reading
+    ensures { result ≡ of_line asked line }
+{
+    let filter = Filter {
+        line: Some(line),
+        ..asked.filter
+    };
+    Reading {
+        asked: Asked { filter, ..asked },
+        awaited: Awaited::Option,
+    }
+}
+
+/// Keeps the calls with a frame of a channel.
+fn with_channel(asked: Asked, domain: u8, number: u32) -> Reading
+    ensures { result ≡ of_channel asked domain number }
+{
+    let filter = Filter {
+        channel: Some(Channel { domain, number }),
+        ..asked.filter
+    };
+    Reading {
+        asked: Asked { filter, ..asked },
+        awaited: Awaited::Option,
+    }
+}
+
+/// Begins an option, or adds it where nothing is to follow it.
+fn with_option(asked: Asked, option: OptionName) -> Reading
+    ensures { result ≡ behind_option asked option }
+{
+    match option {
+        OptionName::Domain => Reading {
+            asked,
+            awaited: Awaited::Domain,
+        },
+        OptionName::Channel => Reading {
+            asked,
+            awaited: Awaited::Channel,
+        },
+        OptionName::Line => Reading {
+            asked,
+            awaited: Awaited::Line,
+        },
+        OptionName::Refused => with_refused(asked),
+    }
+}
+
+/// Keeps the calls that were refused.
+fn with_refused(asked: Asked) -> Reading
+    ensures { result ≡ behind_option asked named.Refused }
+{
+    let filter = Filter {
+        refused: true,
+        ..asked.filter
+    };
+    Reading {
+        asked: Asked { filter, ..asked },
+        awaited: Awaited::Option,
+    }
+}
+
+/// Reads the word of an option.
+fn read_option(asked: Asked, word: &[u8]) -> Option<Reading>
+    ensures { result ≡ word_as awaited.Option asked word.now }
+{
+    match option_named(asked.form, word) {
+        Some(option) => Some(with_option(asked, option)),
+        None => None,
+    }
+}
+
+/// Reads a word that is to be a number.
+fn read_domain(asked: Asked, word: &[u8]) -> Option<Reading>
+    ensures { result ≡ word_as awaited.Domain asked word.now }
+{
+    match domain_number(word) {
+        Some(domain) => Some(with_domain(asked, domain)),
+        None => None,
+    }
+}
+
+fn read_line(asked: Asked, word: &[u8]) -> Option<Reading>
+    ensures { result ≡ word_as awaited.Line asked word.now }
+{
+    match number(u32::MAX, word) {
+        Some(line) => Some(with_line(asked, line)),
+        None => None,
+    }
+}
+
+fn read_channel(asked: Asked, word: &[u8]) -> Option<Reading>
+    ensures { result ≡ word_as awaited.Channel asked word.now }
+{
+    match domain_number(word) {
+        Some(domain) => Some(Reading {
+            asked,
+            awaited: Awaited::ChannelOf { domain },
+        }),
+        None => None,
+    }
+}
+
+fn read_channel_of(domain: u8, asked: Asked, word: &[u8]) -> Option<Reading>
+    ensures { result ≡ word_as (awaited.ChannelOf domain) asked word.now }
+{
+    match number(u32::MAX, word) {
+        Some(number) => Some(with_channel(asked, domain, number)),
+        None => None,
+    }
+}
+
+/// Reads a word. Returns `None` where it is not what it is to be.
+fn read_word(reading: Reading, word: &[u8]) -> Option<Reading>
+    ensures { result ≡ word_as reading.awaited reading.asked word.now }
+{
+    let asked = reading.asked;
+    match reading.awaited {
+        Awaited::Option => read_option(asked, word),
+        Awaited::Domain => read_domain(asked, word),
+        Awaited::Line => read_line(asked, word),
+        Awaited::Channel => read_channel(asked, word),
+        Awaited::ChannelOf { domain } => read_channel_of(domain, asked, word),
+    }
+}
+
+/// Reads words behind others.
+fn read_words(before: Reading, words: &[String]) -> Option<Reading>
+    ensures { result ≡ words_read (Some before) (words_of words.now) }
+{
+    let mut reading = before;
+    let mut rest = words;
+    while let [word, after @ ..] = rest {
+        reading = read_word(reading, word.as_bytes())?;
+        rest = after;
+    }
+    Some(reading)
+}
+
+/// What is asked for, unless a number is still to follow.
+fn whole(reading: Reading) -> Option<Asked>
+    ensures { result ≡ whole_of (Some reading) }
+{
+    match reading.awaited {
+        Awaited::Option => Some(reading.asked),
+        _ => None,
+    }
+}
+
+/// Returns what the words of the program ask for, or `None` where they are those of no form.
+pub fn read_asked(words: &[String]) -> Option<Asked>
+    ensures { result ≡ asked_by (words_of words.now) }
+{
+    let [first, rest @ ..] = words else {
+        return None;
+    };
+    let form = form_named(first.as_bytes())?;
+    whole(read_words(start(form), rest)?)
+}
