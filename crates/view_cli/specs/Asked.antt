@@ -29,7 +29,7 @@ abbrev pub reading : Asked → Awaited → Reading
 reading a next = record { asked = a; awaited = next }
 
 abbrev pub unasked : Form → Reading
-unasked f = reading (record { form = f; filter = record { domain = None; channel = None; line = None; refused = false } }) awaited.Option
+unasked f = reading (record { form = f; filter = record { domain = None; channel = None; line = None; refused = false }; together = false }) awaited.Option
 
 -- ---- the calls that are kept
 
@@ -50,6 +50,7 @@ behind_option a option.Domain = reading a awaited.Domain
 behind_option a option.Channel = reading a awaited.Channel
 behind_option a option.Line = reading a awaited.Line
 behind_option a option.Refused = reading (record a { filter = record a.filter { refused = true } }) awaited.Option
+behind_option a option.Together = reading (record a { together = true }) awaited.Option
 
 -- behind a word that is to be this
 abbrev pub word_as : Awaited → Asked → List ℕ → Option Reading

@@ -23,7 +23,7 @@ word_of form.Text = codes "text"
 
 abbrev pub options_of : Form → List OptionName
 options_of form.Refused = []
-options_of form.Text = option.Domain ∷ option.Channel ∷ option.Line ∷ option.Refused ∷ []
+options_of form.Text = option.Domain ∷ option.Channel ∷ option.Line ∷ option.Refused ∷ option.Together ∷ []
 
 abbrev pub form_in : List ℕ → Option Form
 form_in word = find (λ f. bytes_eq (word_of f) word) forms
@@ -35,6 +35,7 @@ text_of_option option.Domain = codes "--domain"
 text_of_option option.Channel = codes "--channel"
 text_of_option option.Line = codes "--line"
 text_of_option option.Refused = codes "--refused"
+text_of_option option.Together = codes "--together"
 
 -- the option of this word, where the form takes it
 abbrev pub option_in : Form → List ℕ → Option OptionName
@@ -42,4 +43,4 @@ option_in f word = find (λ o. bytes_eq (text_of_option o) word) (options_of f)
 
 -- what is written where the words are those of no form
 abbrev pub usage_text : List ℕ
-usage_text = codes "usage: mcview refused | text [--domain D] [--channel D N] [--line K] [--refused]\n"
+usage_text = codes "usage: mcview refused | text [--domain D] [--channel D N] [--line K] [--refused] [--together]\n"

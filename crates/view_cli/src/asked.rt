@@ -6,16 +6,18 @@ ghost use Rattle.view_cli.specs.Words.{words_of};
 ghost use Rattle.view_cli.specs.declared.asked.Awaited.TheVariants as awaited;
 ghost use Rattle.view_cli.specs.declared.form.OptionName.TheVariants as named;
 
-use crate::filter::Filter;
 use crate::form::{Form, OptionName, form_named, option_named};
 use board_model::number_to;
 use report_view::Channel;
+use view_text::Filter;
 
 /// A form, and which calls of a report it is to show.
 #[derive(Clone, Copy, Debug)]
 pub struct Asked {
     pub form: Form,
     pub filter: Filter,
+    /// All domains are shown in one order, and not one after the other.
+    pub together: bool,
 }
 
 /// What the next word is to be.
@@ -51,7 +53,11 @@ fn start(form: Form) -> Reading
         refused: false,
     };
     Reading {
-        asked: Asked { form, filter },
+        asked: Asked {
+            form,
+            filter,
+            together: false,
+        },
         awaited: Awaited::Option,
     }
 }
@@ -136,6 +142,13 @@ fn with_option(asked: Asked, option: OptionName) -> Reading
             awaited: Awaited::Line,
         },
         OptionName::Refused => with_refused(asked),
+        OptionName::Together => Reading {
+            asked: Asked {
+                together: true,
+                ..asked
+            },
+            awaited: Awaited::Option,
+        },
     }
 }
 

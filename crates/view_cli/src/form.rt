@@ -23,6 +23,8 @@ pub enum OptionName {
     Line,
     /// `--refused`: the calls that were refused.
     Refused,
+    /// `--together`: all domains in one order.
+    Together,
 }
 
 /// Returns the word of a form.
@@ -52,6 +54,7 @@ fn options_of(form: Form) -> &'static [OptionName]
             OptionName::Channel,
             OptionName::Line,
             OptionName::Refused,
+            OptionName::Together,
         ],
     }
 }
@@ -65,6 +68,7 @@ fn option_word(option: OptionName) -> &'static [u8]
         OptionName::Channel => b"--channel",
         OptionName::Line => b"--line",
         OptionName::Refused => b"--refused",
+        OptionName::Together => b"--together",
     }
 }
 

@@ -1,6 +1,5 @@
 ghost use Rattle.std.specs.Prelude.{◌≡◌, ◌≢◌, ◌<◌, ◌≤◌, ℕ, IfSome, List, None, Some, length};
 ghost use Rattle.std.specs.Io.KnownBytes.{Appends};
-ghost use Rattle.report_view.specs.Texts.{PutsText, WritesText};
 ghost use Rattle.view_cli.specs.Asked.{asked_by, form_asked};
 ghost use Rattle.view_cli.specs.RefusedCalls.{ListsRefused, ShowsRefused};
 ghost use Rattle.view_cli.specs.Statuses.{Ends, Shows, WritesThis};
@@ -12,7 +11,8 @@ use crate::form::Form;
 use crate::refused::tell_refused;
 use crate::status::{self, after_write};
 use crate::text::tell_text;
-use outer_io::{Failed, ReadFault, Sink, Source, Writer, read_all, write_all};
+use crate::wrong::write_wrong;
+use outer_io::{ReadFault, Sink, Source, read_all, write_all};
 use report_text::TextFault;
 use report_view::{View, read_view};
 use std::alloc::Global;
@@ -22,16 +22,17 @@ const REPORT_LIMIT: usize = 268_435_456;
 
 /// What is written where the words are those of no form.
 const USAGE: &[u8] =
-    b"usage: mcview refused | text [--domain D] [--channel D N] [--line K] [--refused]\n";
+    b"usage: mcview refused | text [--domain D] [--channel D N] [--line K] [--refused] [--together]\n";
 
 /// Does what the words say with the report of a board, writes the output, and returns the status to end with.
 ///
 /// The form `refused` writes the calls that were refused, one a line: the number of the call's line in the report, its domain, its number in the
 /// domain's script, the line, and behind a colon the word of the refusal. The form `text` writes what each domain did for each line of its
-/// script, in words. Its options keep the calls of a domain, those with a frame of a channel, that of a line, or those that were refused.
+/// script, in words. Its options keep the calls of a domain, those with a frame of a channel, that of a line, or those that were refused, and
+/// show all domains in one order.
 ///
 /// The statuses are 0 where the output was written, 1 where `refused` wrote a line, 2 where the words are those of no form and the usage was
-/// written, 3 where the input is no report and its first wrong line was written, 4 where a read failed, 5 where a write failed, 6 where an
+/// written, 3 where the input is no report, or has no such order, and its first wrong line was written, 4 where a read failed, 5 where a write failed, 6 where an
 /// allocation failed, and 7 where the input has more than 268,435,456 bytes.
 pub fn mcview<S: Source, K: Sink>(
     alloc: Global,
@@ -77,41 +78,21 @@ fn with_report<K: Sink>(alloc: Global, asked: Asked, report: &[u8], output: &mut
     ensures refused { asked.form ≡ Refused → result ≤ 1 → ShowsRefused report.now result (K.written output.old) (K.written output.new) }
 {
     match read_view(alloc, report) {
-        Ok(view) => show(alloc, asked, &view, output),
-        Err(TextFault::Wrong { line }) => after_write(write_wrong(line, output), status::NO_REPORT),
+        Ok(view) => show(alloc, asked, &view, report.len(), output),
+        Err(TextFault::Wrong { line }) => {
+            after_write(write_wrong(line, b"text", output), status::NO_REPORT)
+        }
         Err(TextFault::NoMemory) => status::NO_MEMORY,
     }
 }
 
-/// Shows what a report says. Returns the status.
-fn show<K: Sink>(alloc: Global, asked: Asked, view: &View<'_>, output: &mut K) -> u8
+/// Shows what a report of so many bytes says. Returns the status.
+fn show<K: Sink>(alloc: Global, asked: Asked, view: &View<'_>, size: usize, output: &mut K) -> u8
     ensures shows { Shows K.Sink result output.old output.new }
     ensures refused { asked.form ≡ Refused → result ≤ 3 → (text : List ℕ) × ListsRefused view.now.domains.items result text × Appends (K.written output.old) (K.written output.new) text }
 {
     match asked.form {
         Form::Refused => tell_refused(alloc, view, output),
-        Form::Text => tell_text(alloc, view, asked.filter, output),
+        Form::Text => tell_text(alloc, view, size, asked, output),
     }
-}
-
-/// Writes the first wrong line of an input that is no report, as `mcrun check` does.
-///
-/// # Errors
-///
-/// `Failed` where a write failed.
-fn write_wrong<K: Sink>(line: u32, output: &mut K) -> Result<(), Failed>
-    ensures { WritesText K.Sink output.old output.new result }
-{
-    let mut out = Writer::new(output);
-    put_wrong(&mut out, line);
-    out.finish()
-}
-
-#[tactic(auto, using(report_view::proofs::TextSteps::text_steps))]
-fn put_wrong<K: Sink>(out: &mut Writer<'_, K>, line: u32)
-    ensures { PutsText K.Sink out.old out.new }
-{
-    out.put(b"wrong ");
-    out.put_number(u64::from(line));
-    out.put(b" text\n");
 }

@@ -101,13 +101,14 @@ const WAIT_TEXT: &str = "domain 0
     answer timeout
         turns of the wait: 3
         waited for line 5: 0.0 far = lookup 1:0:7
-        taken from 0 so far: 0 of the 0 frames that it puts in all
-        taken from 1 so far: 0 of the 0 frames that it puts in all
+        frames from 0: 0 taken, 0 on the way
+        frames from 1: 0 taken, 0 on the way
+        calls that domain 1 had made: 0 of 1
 domain 1
 ";
 
 const USAGE: &str =
-    "usage: mcview refused | text [--domain D] [--channel D N] [--line K] [--refused]\n";
+    "usage: mcview refused | text [--domain D] [--channel D N] [--line K] [--refused] [--together]\n";
 
 /// The number of no call of a source or sink.
 const NEVER: u64 = 1_000_000_000;

@@ -1,6 +1,6 @@
 use Rattle.std.proofs.Common.{rules}
 use Rattle.report_view.proofs.TextSteps.{text_same, text_written}
-use Rattle.view_cli.proofs.top.write_wrong.Goals as goal
+use Rattle.view_cli.proofs.wrong.write_wrong.Goals as goal
 
 pub returns : goal.returns
 returns g c =

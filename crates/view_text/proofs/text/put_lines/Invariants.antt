@@ -1,7 +1,7 @@
 use Rattle.std.proofs.Common.{◌≤◌, length}
 use Rattle.report_text.specs.Texts.{longest_line}
 use Rattle.report_view.specs.Texts.{PutsText}
-use Rattle.view_cli.proofs.text.put_entries.Given as goal
+use Rattle.view_text.proofs.text.put_lines.Given as goal
 
 abbrev pub invariant-loop-done : goal.invariant-loop-done
 invariant-loop-done g l = record {

@@ -1,0 +1,29 @@
+//! The line of a wrong report.
+
+ghost use Rattle.report_view.specs.Texts.{PutsText, WritesText};
+
+use outer_io::{Failed, Sink, Writer};
+
+/// Writes the first wrong line of an input, and why it is wrong, as `mcrun check` does.
+///
+/// # Errors
+///
+/// `Failed` where a write failed.
+pub fn write_wrong<K: Sink>(line: u32, reason: &[u8], output: &mut K) -> Result<(), Failed>
+    ensures { WritesText K.Sink output.old output.new result }
+{
+    let mut out = Writer::new(output);
+    put_wrong(&mut out, line, reason);
+    out.finish()
+}
+
+#[tactic(auto, using(report_view::proofs::TextSteps::text_steps))]
+fn put_wrong<K: Sink>(out: &mut Writer<'_, K>, line: u32, reason: &[u8])
+    ensures { PutsText K.Sink out.old out.new }
+{
+    out.put(b"wrong ");
+    out.put_number(u64::from(line));
+    out.put(b" ");
+    out.put(reason);
+    out.put(b"\n");
+}

@@ -1,0 +1,17 @@
+//! What the domains of a report did, in words: domain by domain, or all in one order.
+#![tactic(auto)]
+
+mod answer;
+mod collecting;
+mod filter;
+mod missing;
+mod queues;
+mod segment;
+mod standing;
+mod text;
+mod told;
+mod words;
+
+pub use filter::Filter;
+pub use text::write_text;
+pub use told::{ToldText, read_text};
