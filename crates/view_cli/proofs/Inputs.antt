@@ -1,5 +1,5 @@
 -- What was read, where the source tells its bytes.
-use Rattle.std.proofs.Common.{◌≡◌, ℕ, List, ◌++◌, [], Option, Some, None, sym, ap, ◌∙◌, append-nil, subst}
+use Rattle.std.proofs.Common.{◌≡◌, ℕ, List, ◌++◌, [], Option, Some, None, Result, Ok, Err, sym, ap, ◌∙◌, append-nil, subst}
 use Rattle.std.specs.Prelude.{IfSome}
 use Rattle.std.specs.Io.KnownBytes.{Consumes, IsAtEnd}
 
@@ -12,3 +12,7 @@ pub if_text : (old new : Option (List ℕ)) (text : List ℕ) (Q : List ℕ → 
 if_text None new text Q read end h = tt
 if_text (Some all) None text Q read end h = absurd read
 if_text (Some all) (Some rest) text Q read end h = subst Q (sym (all_read all rest text read end)) h
+
+-- what was read is no failure
+pub ok-differs : {T E : Type 0} (v : T) (e : E) → ◌≡◌ {A = Result T E} (Ok v) (Err e) → ⊥
+ok-differs v e is = absurd cc

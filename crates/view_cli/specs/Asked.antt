@@ -1,5 +1,5 @@
 -- What the words of the program ask for: a form, and which calls of a report it is to show. The first word names the form, and each behind it is an
--- option of the form, or a number that belongs to the option before it.
+-- option of the form, or a number that belongs to the option before it; behind `expect` stands the name of a file.
 -- Source: docs/FORMATS.md, "Views of a report".
 use Rattle.std.specs.Prelude.{ℕ, true, false, List, [], ◌∷◌, Option, None, Some, option_map}
 use Rattle.board_model.specs.FileWords.{number_of}
@@ -10,6 +10,7 @@ use Rattle.view_cli.specs.declared.asked.Awaited.{Awaited}
 use Rattle.view_cli.specs.declared.asked.Awaited.TheVariants as awaited
 use Rattle.view_cli.specs.declared.asked.Reading.{Reading}
 use Rattle.view_cli.specs.declared.form.Form.{Form}
+use Rattle.view_cli.specs.declared.form.Form.TheVariants as form
 use Rattle.view_cli.specs.declared.form.OptionName.{OptionName}
 use Rattle.view_cli.specs.declared.form.OptionName.TheVariants as option
 
@@ -28,8 +29,13 @@ number_to n word = at_most n (number_of word)
 abbrev pub reading : Asked → Awaited → Reading
 reading a next = record { asked = a; awaited = next }
 
+-- what follows the word of a form: the name of a file behind `expect`, and else an option
+abbrev pub first_awaited : Form → Awaited
+first_awaited form.Expect = awaited.File
+first_awaited other = awaited.Option
+
 abbrev pub unasked : Form → Reading
-unasked f = reading (record { form = f; filter = record { domain = None; channel = None; line = None; refused = false }; together = false }) awaited.Option
+unasked f = reading (record { form = f; filter = record { domain = None; channel = None; line = None; refused = false }; together = false }) (first_awaited f)
 
 -- ---- the calls that are kept
 
@@ -55,6 +61,7 @@ behind_option a option.Together = reading (record a { together = true }) awaited
 -- behind a word that is to be this
 abbrev pub word_as : Awaited → Asked → List ℕ → Option Reading
 word_as awaited.Option a word = option_map (behind_option a) (option_in a.form word)
+word_as awaited.File a word = Some (reading a awaited.Option)
 word_as awaited.Domain a word = option_map (of_domain a) (number_to domain_most word)
 word_as awaited.Line a word = option_map (of_line a) (number_to most word)
 word_as awaited.Channel a word = option_map (λ d. reading a (awaited.ChannelOf d)) (number_to domain_most word)

@@ -2,3 +2,4 @@ pub mod Statuses
 pub mod RefusedCalls
 pub mod Words
 pub mod Asked
+pub mod ExpectedAnswers

@@ -5,7 +5,15 @@ use Rattle.std.specs.Io.KnownBytes.{Appends}
 use Rattle.outer_io.specs.Faults.{Rose}
 use Rattle.outer_io.specs.Writes.{AppendsPart}
 use Rattle.outer_io.specs.declared.sink.Sink.{Ghosts as SinkGhosts}
+use Rattle.outer_io.specs.declared.source.ReadFault.{ReadFault}
+use Rattle.outer_io.specs.declared.source.ReadFault.TheVariants as fault
 use Rattle.outer_io.specs.declared.source.Source.{Ghosts as SourceGhosts}
+
+-- the status for an input that was not read to its end
+abbrev pub status_after : ReadFault → ℕ
+status_after fault.Failed = 4
+status_after fault.TooLong = 7
+status_after fault.NoMemory = 6
 
 -- some text was written whole at every status but 5, at which it breaks off
 pub record Writes {K : Type 0} (sink : SinkGhosts K) (status : ℕ) (old new : K) : Type 0 where
@@ -28,10 +36,18 @@ pub record Shows {K : Type 0} (sink : SinkGhosts K) (status : ℕ) (old new : K)
   pub read : status ≢ 4
   pub nothing : status ≡ 6 → new ≡ old
 
--- what is done with any words: the status is 0 to 7; 4 comes exactly where a read failed, and 5 where a write failed; nothing is written at 4, 6 and 7
-pub record Ends {S K : Type 0} (source : SourceGhosts S) (sink : SinkGhosts K) (status : ℕ) (input input' : S) (old new : K) : Type 0 where
+-- what is done with an input that is to be read: the status is 0 to 7; 4 comes exactly where a read failed, and 5 where a write failed; nothing is written at 4, 6 and 7
+pub record EndsOn {S K : Type 0} (source : SourceGhosts S) (sink : SinkGhosts K) (status : ℕ) (input input' : S) (old new : K) : Type 0 where
   pub writes : Writes sink status old new
   pub most : status ≤ 7
   pub read_failed : status ≡ 4 → Rose (source.faults input) (source.faults input')
   pub read : status ≢ 4 → source.faults input' ≡ source.faults input
+  pub nothing : 4 ≤ status → status ≢ 5 → new ≡ old
+
+-- what is done with any words: the same of an input and a scenario file
+pub record Ends {S F K : Type 0} (source : SourceGhosts S) (file_source : SourceGhosts F) (sink : SinkGhosts K) (status : ℕ) (input input' : S) (file file' : F) (old new : K) : Type 0 where
+  pub writes : Writes sink status old new
+  pub most : status ≤ 7
+  pub read_failed : status ≡ 4 → Rose (source.faults input) (source.faults input') ⊎ Rose (file_source.faults file) (file_source.faults file')
+  pub read : status ≢ 4 → (source.faults input' ≡ source.faults input) × (file_source.faults file' ≡ file_source.faults file)
   pub nothing : 4 ≤ status → status ≢ 5 → new ≡ old

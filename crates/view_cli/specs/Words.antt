@@ -15,14 +15,16 @@ words_of words = map (λ w. string_bytes w) words
 -- ---- the forms
 
 abbrev pub forms : List Form
-forms = form.Refused ∷ form.Text ∷ []
+forms = form.Refused ∷ form.Text ∷ form.Expect ∷ []
 
 abbrev pub word_of : Form → List ℕ
 word_of form.Refused = codes "refused"
 word_of form.Text = codes "text"
+word_of form.Expect = codes "expect"
 
 abbrev pub options_of : Form → List OptionName
 options_of form.Refused = []
+options_of form.Expect = []
 options_of form.Text = option.Domain ∷ option.Channel ∷ option.Line ∷ option.Refused ∷ option.Together ∷ []
 
 abbrev pub form_in : List ℕ → Option Form
@@ -43,4 +45,4 @@ option_in f word = find (λ o. bytes_eq (text_of_option o) word) (options_of f)
 
 -- what is written where the words are those of no form
 abbrev pub usage_text : List ℕ
-usage_text = codes "usage: mcview refused | text [--domain D] [--channel D N] [--line K] [--refused] [--together]\n"
+usage_text = codes "usage: mcview refused | text [--domain D] [--channel D N] [--line K] [--refused] [--together] | expect FILE\n"

@@ -1,7 +1,7 @@
 //! What the words of the program ask for.
 
 ghost use Rattle.std.specs.Prelude.{◌≡◌, Some};
-ghost use Rattle.view_cli.specs.Asked.{asked_by, behind_option, number_to as number_in, of_channel, of_domain, of_line, unasked, whole as whole_of, word_as, words_read};
+ghost use Rattle.view_cli.specs.Asked.{asked_by, behind_option, first_awaited, number_to as number_in, of_channel, of_domain, of_line, unasked, whole as whole_of, word_as, words_read};
 ghost use Rattle.view_cli.specs.Words.{words_of};
 ghost use Rattle.view_cli.specs.declared.asked.Awaited.TheVariants as awaited;
 ghost use Rattle.view_cli.specs.declared.form.OptionName.TheVariants as named;
@@ -25,6 +25,8 @@ pub struct Asked {
 enum Awaited {
     /// An option, where one follows.
     Option,
+    /// The name of a file.
+    File,
     /// The number of a domain.
     Domain,
     /// The number of a line.
@@ -40,6 +42,16 @@ enum Awaited {
 struct Reading {
     asked: Asked,
     awaited: Awaited,
+}
+
+/// What follows the word of a form.
+fn awaited_behind(form: Form) -> Awaited
+    ensures { result ≡ first_awaited form }
+{
+    match form {
+        Form::Expect => Awaited::File,
+        Form::Refused | Form::Text => Awaited::Option,
+    }
 }
 
 /// What a form shows where no option is given.
@@ -58,7 +70,7 @@ fn start(form: Form) -> Reading
             filter,
             together: false,
         },
-        awaited: Awaited::Option,
+        awaited: awaited_behind(form),
     }
 }
 
@@ -223,6 +235,10 @@ fn read_word(reading: Reading, word: &[u8]) -> Option<Reading>
     let asked = reading.asked;
     match reading.awaited {
         Awaited::Option => read_option(asked, word),
+        Awaited::File => Some(Reading {
+            asked,
+            awaited: Awaited::Option,
+        }),
         Awaited::Domain => read_domain(asked, word),
         Awaited::Line => read_line(asked, word),
         Awaited::Channel => read_channel(asked, word),
@@ -262,4 +278,12 @@ pub fn read_asked(words: &[String]) -> Option<Asked>
     };
     let form = form_named(first.as_bytes())?;
     whole(read_words(start(form), rest)?)
+}
+
+/// Returns the name of the file that the words of the program name, if they do.
+pub fn file_asked(words: &[String]) -> Option<&String> {
+    match read_asked(words)?.form {
+        Form::Expect => words.get(1),
+        Form::Refused | Form::Text => None,
+    }
 }

@@ -10,6 +10,8 @@ pub enum Form {
     Refused,
     /// `text`: what each domain did, in words.
     Text,
+    /// `expect FILE`: whether the answers are those that a scenario file expects.
+    Expect,
 }
 
 /// An option of a form.
@@ -34,13 +36,14 @@ fn form_word(form: Form) -> &'static [u8]
     match form {
         Form::Refused => b"refused",
         Form::Text => b"text",
+        Form::Expect => b"expect",
     }
 }
 
 fn all_forms() -> &'static [Form]
     ensures { result.now ≡ forms }
 {
-    &[Form::Refused, Form::Text]
+    &[Form::Refused, Form::Text, Form::Expect]
 }
 
 /// Returns the options that a form takes.
@@ -48,7 +51,7 @@ fn options_of(form: Form) -> &'static [OptionName]
     ensures { result.now ≡ options_taken form }
 {
     match form {
-        Form::Refused => &[],
+        Form::Refused | Form::Expect => &[],
         Form::Text => &[
             OptionName::Domain,
             OptionName::Channel,

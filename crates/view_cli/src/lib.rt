@@ -1,7 +1,8 @@
-//! The program `mcview` as a call: words and the report of a board in, a view of it and a status out.
+//! The program `mcview` as a call: words, the report of a board and what is expected of it in, a view of it and a status out.
 #![tactic(auto)]
 
 mod asked;
+mod expect;
 mod form;
 mod refused;
 mod status;
@@ -9,4 +10,5 @@ mod text;
 mod top;
 mod wrong;
 
+pub use asked::file_asked;
 pub use top::mcview;

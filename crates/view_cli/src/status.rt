@@ -1,19 +1,20 @@
 //! The statuses that the program ends with: those of `mcrun`.
 
 ghost use Rattle.std.specs.Prelude.{◌≡◌, OnErr, OnOk};
+ghost use Rattle.view_cli.specs.Statuses.{status_after};
 
-use outer_io::Failed;
+use outer_io::{Failed, ReadFault};
 
 /// The report was read, and the output is written whole.
 pub const DONE: u8 = 0;
 
-/// The same, and what the form asks for is there: a call that was refused.
+/// The same, and a call was refused, or an answer is not as expected.
 pub const FOUND: u8 = 1;
 
 /// The words are none of the forms.
 pub const USAGE: u8 = 2;
 
-/// The input is no report.
+/// The input is no report, or not one that the form can show.
 pub const NO_REPORT: u8 = 3;
 
 /// The source failed.
@@ -36,5 +37,16 @@ pub fn after_write(written: Result<(), Failed>, status: u8) -> u8
     match written {
         Ok(()) => status,
         Err(Failed) => WRITE_FAILED,
+    }
+}
+
+/// Returns the status after an input that was not read to its end.
+pub fn after_read(fault: ReadFault) -> u8
+    ensures { result ≡ status_after fault }
+{
+    match fault {
+        ReadFault::Failed => READ_FAILED,
+        ReadFault::TooLong => TOO_LONG,
+        ReadFault::NoMemory => NO_MEMORY,
     }
 }

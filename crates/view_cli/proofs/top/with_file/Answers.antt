@@ -1,0 +1,28 @@
+use Rattle.std.specs.Prelude.{IfSome}
+use Rattle.view_cli.specs.ExpectedAnswers.{ShowsExpected}
+use Rattle.view_cli.proofs.Inputs.{if_text, ok-differs}
+use Rattle.view_cli.proofs.Showing.{ends_fault, ends_with, ends_without, not_read, not_usage}
+use Rattle.view_cli.proofs.top.with_file.Goals as goal
+
+pub returns-in-Ok-clause-ends : goal.returns-in-Ok-clause-ends
+returns-in-Ok-clause-ends g c =
+    ends_with g.S.Source g.F.Source g.K.Sink _ _ _ _ _ _ _ (c.in-Ok.ensures.no_fault (ok-differs _ _)) c.with_input.ensures.ends
+
+pub returns-in-Ok-clause-expected : goal.returns-in-Ok-clause-expected
+returns-in-Ok-clause-expected g c = λ is few.
+    let bytes = rw (← c.deref.ensures.value) at c.in-Ok.ensures.bytes in
+    if_text _ _ c.deref.result.now (λ text. IfSome (g.S.Source.rest c.args.input.now) (λ report. ShowsExpected text report c.with_input.result _ _)) bytes c.in-Ok.ensures.end (c.with_input.ensures.expected is few)
+
+pub returns-in-Err-clause-ends : goal.returns-in-Err-clause-ends
+returns-in-Err-clause-ends g c =
+    ends_without g.S.Source g.F.Source g.K.Sink _ _ _ _ _ _
+    (ends_fault g.F.Source g.K.Sink c.in-Err.fault c.after_read.result _ _ _ c.after_read.ensures c.in-Err.ensures.failed c.in-Err.ensures.no_fault)
+
+pub returns-in-Err-clause-form : goal.returns-in-Err-clause-form
+returns-in-Err-clause-form g c = not_usage c.in-Err.fault c.after_read.result c.after_read.ensures
+
+pub returns-in-Err-clause-refused : goal.returns-in-Err-clause-refused
+returns-in-Err-clause-refused g c = λ is few. absurd (not_read c.in-Err.fault c.after_read.result c.after_read.ensures few)
+
+pub returns-in-Err-clause-expected : goal.returns-in-Err-clause-expected
+returns-in-Err-clause-expected g c = λ is few. absurd (not_read c.in-Err.fault c.after_read.result c.after_read.ensures few)

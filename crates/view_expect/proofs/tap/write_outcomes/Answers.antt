@@ -1,0 +1,17 @@
+use Rattle.std.proofs.Common.{rules}
+use Rattle.outer_io.proofs.Finishing.{finished, puts_same}
+use Rattle.view_expect.proofs.tap.write_outcomes.Goals as goal
+
+pub returns-clause-bytes : goal.returns-clause-bytes
+returns-clause-bytes g c =
+    let written = finished g.K.Sink c.new-out.result c.put_all.new.out _ c.finish.result _ c.new-out.ensures.sound c.new-out.ensures.empty c.put_all.ensures c.finish.ensures in
+    let bytes = rw c.new-out.ensures.sink at written.bytes in
+    let same = puts_same _ _ _ _ c.put_all.ensures in
+    search rules
+
+pub returns-clause-cause : goal.returns-clause-cause
+returns-clause-cause g c =
+    let written = finished g.K.Sink c.new-out.result c.put_all.new.out _ c.finish.result _ c.new-out.ensures.sound c.new-out.ensures.empty c.put_all.ensures c.finish.ensures in
+    let cause = rw c.new-out.ensures.sink at written.cause in
+    let same = puts_same _ _ _ _ c.put_all.ensures in
+    search rules
