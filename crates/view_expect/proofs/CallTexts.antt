@@ -1,5 +1,5 @@
 -- The lines of a journal that answer calls, line by line.
-use Rattle.std.proofs.Common.{◌≡◌, ℕ, List, [], ◌∷◌, ◌++◌, Option, Some, None, refl, sym, ap, ◌∙◌}
+use Rattle.std.proofs.Common.{◌≡◌, ℕ, List, [], ◌∷◌, Option, Some, None, refl, sym, ap, ◌∙◌}
 use Rattle.report_text.specs.JournalRead.{told_texts, text_first}
 use Rattle.report_text.specs.Outlines.{told_line, told_lines, told_first}
 use Rattle.report_text.specs.TextLines.{lines_in}

@@ -1,6 +1,6 @@
 -- A scenario file with expected answers: behind a call, an arrow `->` and the answer.
 -- Source: docs/FORMATS.md, "Expected answers". Lines that make no call expect nothing.
-use Rattle.std.specs.Prelude.{ℕ, zero, suc, ◌+◌, ◌-◌, ◌==◌, ◌&&◌, ◌||◌, Bool, List, [], ◌∷◌, ◌++◌, length, take, nat_le, slice_index, slice_set, Option, None, Some, if◌then◌else◌}
+use Rattle.std.specs.Prelude.{ℕ, zero, suc, ◌-◌, ◌==◌, ◌&&◌, ◌||◌, Bool, List, [], ◌∷◌, ◌++◌, length, take, nat_le, slice_index, slice_set, Option, None, Some, if◌then◌else◌}
 use Rattle.std.specs.List.{flat_map}
 use Rattle.mc_journal.specs.Readers.{cut_at}
 use Rattle.outer_io.specs.Faults.{one_more}
