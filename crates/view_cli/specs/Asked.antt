@@ -1,7 +1,7 @@
--- What the words of the program ask for: a form, and which calls of a report it is to show. The first word names the form, and each behind it is an
--- option of the form, or a number that belongs to the option before it; behind `expect` stands the name of a file.
+-- What the words of the program ask for: a form, and which calls of a report it is to show. The first word names the form, and each behind
+-- it is an option of the form, or a number that belongs to the option before it; behind `expect` stands the name of a file.
 -- Source: docs/FORMATS.md, "Views of a report".
-use Rattle.std.specs.Prelude.{ℕ, true, false, List, [], ◌∷◌, Option, None, Some, option_map}
+use Rattle.std.specs.Prelude.{ℕ, Bool, true, false, List, [], ◌∷◌, Option, None, Some, option_map}
 use Rattle.board_model.specs.FileWords.{number_of}
 use Rattle.board_model.specs.Numerals.{at_most}
 use Rattle.view_cli.specs.Words.{form_in, option_in}
@@ -35,7 +35,7 @@ first_awaited form.Expect = awaited.File
 first_awaited other = awaited.Option
 
 abbrev pub unasked : Form → Reading
-unasked f = reading (record { form = f; filter = record { domain = None; channel = None; line = None; refused = false }; together = false }) (first_awaited f)
+unasked f = reading (record { form = f; filter = record { domain = None; channel = None; line = None; refused = false }; together = false; check = false }) (first_awaited f)
 
 -- ---- the calls that are kept
 
@@ -56,6 +56,7 @@ behind_option a option.Domain = reading a awaited.Domain
 behind_option a option.Channel = reading a awaited.Channel
 behind_option a option.Line = reading a awaited.Line
 behind_option a option.Refused = reading (record a { filter = record a.filter { refused = true } }) awaited.Option
+behind_option a option.Check = reading (record a { check = true }) awaited.Option
 behind_option a option.Together = reading (record a { together = true }) awaited.Option
 
 -- behind a word that is to be this
@@ -93,3 +94,11 @@ asked_by (w ∷ ws) = asked_behind (form_in w) ws
 -- the form that they name
 abbrev pub form_asked : List (List ℕ) → Option Form
 form_asked words = option_map (λ a. a.form) (asked_by words)
+
+-- whether they ask for a report that is right
+abbrev pub check_of : Option Asked → Bool
+check_of None = false
+check_of (Some a) = a.check
+
+abbrev pub asks_for_check : List (List ℕ) → Bool
+asks_for_check words = check_of (asked_by words)

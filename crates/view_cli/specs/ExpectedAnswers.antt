@@ -14,7 +14,8 @@ use Rattle.view_expect.specs.Answers.{answers_of}
 use Rattle.view_expect.specs.Expected.{bare, expected_in}
 use Rattle.view_expect.specs.Outcomes.{are_met, tap_text, verdict_of, verdict_on}
 
--- of each answer that the file expects, in order, it was found whether the journals have it; that was written, and the status says whether they have all
+-- of each answer that the file expects, in order, it was found whether the journals have it; that was written, and the status says whether
+-- they have all
 pub record ShowsOutcomes (file : List ℕ) (view : View) (status : ℕ) (old new : Option (List ℕ)) : Type 0 where
   pub outcomes : List Outcome
   pub all : map verdict_of outcomes ≡ map (verdict_on (map answers_of view.domains.items)) (expected_in file)

@@ -36,7 +36,8 @@ pub record Shows {K : Type 0} (sink : SinkGhosts K) (status : ℕ) (old new : K)
   pub read : status ≢ 4
   pub nothing : status ≡ 6 → new ≡ old
 
--- what is done with an input that is to be read: the status is 0 to 7; 4 comes exactly where a read failed, and 5 where a write failed; nothing is written at 4, 6 and 7
+-- what is done with an input that is to be read: the status is 0 to 7; 4 comes exactly where a read failed, and 5 where a write failed;
+-- nothing is written at 4, 6 and 7
 pub record EndsOn {S K : Type 0} (source : SourceGhosts S) (sink : SinkGhosts K) (status : ℕ) (input input' : S) (old new : K) : Type 0 where
   pub writes : Writes sink status old new
   pub most : status ≤ 7

@@ -23,9 +23,9 @@ word_of form.Text = codes "text"
 word_of form.Expect = codes "expect"
 
 abbrev pub options_of : Form → List OptionName
-options_of form.Refused = []
-options_of form.Expect = []
-options_of form.Text = option.Domain ∷ option.Channel ∷ option.Line ∷ option.Refused ∷ option.Together ∷ []
+options_of form.Refused = option.Check ∷ []
+options_of form.Expect = option.Check ∷ []
+options_of form.Text = option.Domain ∷ option.Channel ∷ option.Line ∷ option.Refused ∷ option.Together ∷ option.Check ∷ []
 
 abbrev pub form_in : List ℕ → Option Form
 form_in word = find (λ f. bytes_eq (word_of f) word) forms
@@ -38,6 +38,7 @@ text_of_option option.Channel = codes "--channel"
 text_of_option option.Line = codes "--line"
 text_of_option option.Refused = codes "--refused"
 text_of_option option.Together = codes "--together"
+text_of_option option.Check = codes "--check"
 
 -- the option of this word, where the form takes it
 abbrev pub option_in : Form → List ℕ → Option OptionName
@@ -45,4 +46,4 @@ option_in f word = find (λ o. bytes_eq (text_of_option o) word) (options_of f)
 
 -- what is written where the words are those of no form
 abbrev pub usage_text : List ℕ
-usage_text = codes "usage: mcview refused | text [--domain D] [--channel D N] [--line K] [--refused] [--together] | expect FILE\n"
+usage_text = codes "usage: mcview refused | text [--domain D] [--channel D N] [--line K] [--refused] [--together] | expect FILE, each [--check]\n"

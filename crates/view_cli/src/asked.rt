@@ -18,6 +18,8 @@ pub struct Asked {
     pub filter: Filter,
     /// All domains are shown in one order, and not one after the other.
     pub together: bool,
+    /// Nothing is shown of a report that is not right.
+    pub check: bool,
 }
 
 /// What the next word is to be.
@@ -69,6 +71,7 @@ fn start(form: Form) -> Reading
             form,
             filter,
             together: false,
+            check: false,
         },
         awaited: awaited_behind(form),
     }
@@ -154,6 +157,13 @@ fn with_option(asked: Asked, option: OptionName) -> Reading
             awaited: Awaited::Line,
         },
         OptionName::Refused => with_refused(asked),
+        OptionName::Check => Reading {
+            asked: Asked {
+                check: true,
+                ..asked
+            },
+            awaited: Awaited::Option,
+        },
         OptionName::Together => Reading {
             asked: Asked {
                 together: true,

@@ -89,7 +89,8 @@ fn tell_outcomes<K: Sink>(alloc: Global, file: &[u8], view: &View<'_>, output: &
     after_write(write_outcomes(&outcomes, output), status_of(&outcomes))
 }
 
-/// Writes what became of the answers that a file expects, which has this scenario, or that the report is of another scenario. Returns the status.
+/// Writes what became of the answers that a file expects, which has this scenario, or that the report is of another scenario. Returns the
+/// status.
 fn tell_on<K: Sink>(
     alloc: Global,
     file: &[u8],
@@ -111,7 +112,8 @@ fn tell_on<K: Sink>(
     }
 }
 
-/// Writes what became of the answers that a scenario file expects, or why the file is no scenario or that of another report. Returns the status.
+/// Writes what became of the answers that a scenario file expects, or why the file is no scenario or that of another report. Returns the
+/// status.
 pub fn tell_expected<K: Sink>(alloc: Global, file: &[u8], view: &View<'_>, output: &mut K) -> u8
     requires { length file.now ≤ 8388608 }
     ensures shows { Shows K.Sink result output.old output.new }

@@ -27,6 +27,8 @@ pub enum OptionName {
     Refused,
     /// `--together`: all domains in one order.
     Together,
+    /// `--check`: nothing is shown of a report that is not right.
+    Check,
 }
 
 /// Returns the word of a form.
@@ -51,13 +53,14 @@ fn options_of(form: Form) -> &'static [OptionName]
     ensures { result.now ≡ options_taken form }
 {
     match form {
-        Form::Refused | Form::Expect => &[],
+        Form::Refused | Form::Expect => &[OptionName::Check],
         Form::Text => &[
             OptionName::Domain,
             OptionName::Channel,
             OptionName::Line,
             OptionName::Refused,
             OptionName::Together,
+            OptionName::Check,
         ],
     }
 }
@@ -72,6 +75,7 @@ fn option_word(option: OptionName) -> &'static [u8]
         OptionName::Line => b"--line",
         OptionName::Refused => b"--refused",
         OptionName::Together => b"--together",
+        OptionName::Check => b"--check",
     }
 }
 

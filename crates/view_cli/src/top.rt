@@ -1,6 +1,8 @@
-ghost use Rattle.std.specs.Prelude.{◌≡◌, ◌≢◌, ◌<◌, ◌≤◌, ℕ, IfSome, List, None, Some, length};
+ghost use Rattle.std.specs.Prelude.{◌≡◌, ◌≢◌, ◌<◌, ◌≤◌, ℕ, IfSome, List, None, Some, length, true};
 ghost use Rattle.std.specs.Io.KnownBytes.{Appends};
-ghost use Rattle.view_cli.specs.Asked.{asked_by, form_asked};
+ghost use Rattle.report_text.specs.Verdicts.{verdict_on};
+ghost use Rattle.report_text.specs.declared.verdict.Verdict.TheVariants.{Right};
+ghost use Rattle.view_cli.specs.Asked.{asked_by, asks_for_check, form_asked};
 ghost use Rattle.view_cli.specs.ExpectedAnswers.{ShowsAnswers, ShowsExpected};
 ghost use Rattle.view_cli.specs.RefusedCalls.{ListsRefused, ShowsRefused};
 ghost use Rattle.view_cli.specs.Statuses.{Ends, EndsOn, Shows, WritesThis};
@@ -13,8 +15,10 @@ use crate::form::Form;
 use crate::refused::tell_refused;
 use crate::status::{self, after_read, after_write};
 use crate::text::tell_text;
-use crate::wrong::write_wrong;
+use crate::wrong::{reason_word, write_wrong};
+use mc_base::NoMemory;
 use outer_io::{Sink, Source, read_all, write_all};
+use report_check::{Verdict, check};
 use report_text::TextFault;
 use report_view::{View, read_view};
 use std::alloc::Global;
@@ -27,21 +31,21 @@ const FILE_LIMIT: usize = 8_388_608;
 
 /// What is written where the words are those of no form.
 const USAGE: &[u8] =
-    b"usage: mcview refused | text [--domain D] [--channel D N] [--line K] [--refused] [--together] | expect FILE\n";
+    b"usage: mcview refused | text [--domain D] [--channel D N] [--line K] [--refused] [--together] | expect FILE, each [--check]\n";
 
-/// Does what the words say with the report of a board, writes the output, and returns the status to end with. `file` is the scenario file that
-/// [`file_asked`](crate::file_asked) names; it is read where it names one.
+/// Does what the words say with the report of a board, writes the output, and returns the status to end with. `file` is the scenario file
+/// that [`file_asked`](crate::file_asked) names; it is read where it names one.
 ///
-/// The form `refused` writes the calls that were refused, one a line: the number of the call's line in the report, its domain, its number in the
-/// domain's script, the line, and behind a colon the word of the refusal. The form `text` writes what each domain did for each line of its
-/// script, in words. Its options keep the calls of a domain, those with a frame of a channel, that of a line, or those that were refused, and
-/// show all domains in one order. The form `expect` writes of each answer that a scenario file expects, in the order of its lines, whether it is that
-/// of the report, in the form of TAP.
+/// The form `refused` writes the calls that were refused, one a line: the number of the call's line in the report, its domain, its number
+/// in the domain's script, the line, and behind a colon the word of the refusal. The form `text` writes what each domain did for each line
+/// of its script, in words. Its options keep the calls of a domain, those with a frame of a channel, that of a line, or those that were
+/// refused, and show all domains in one order. The form `expect` writes of each answer that a scenario file expects, in the order of its
+/// lines, whether it is that of the report, in the form of TAP. With `--check` each shows only a report that `mcrun check` finds right.
 ///
-/// The statuses are 0 where the output was written, 1 where `refused` wrote a line or an answer is not as expected, 2 where the words are those of
-/// no form and the usage was written, 3 where the input is no report, has no such order or is of another scenario, or the file is no scenario, and its
-/// first wrong line was written, 4 where a read failed, 5 where a write failed, 6 where an allocation failed, and 7 where the input has more than
-/// 268,435,456 bytes, or the file more than 8,388,608.
+/// The statuses are 0 where the output was written, 1 where `refused` wrote a line or an answer is not as expected, 2 where the words are
+/// those of no form and the usage was written, 3 where the input is no report, has no such order, is of another scenario or was to be
+/// checked and is not right, or the file is no scenario, and its first wrong line was written, 4 where a read failed, 5 where a write
+/// failed, 6 where an allocation failed, and 7 where the input has more than 268,435,456 bytes, or the file more than 8,388,608.
 pub fn mcview<S: Source, F: Source, K: Sink>(
     alloc: Global,
     words: &[String],
@@ -57,6 +61,8 @@ pub fn mcview<S: Source, F: Source, K: Sink>(
 
     // The words of `expect`: of each answer that the file expects, whether it is that of the report. No other words have the file read.
     ensures expected { form_asked (words_of words.now) ≡ Some Expect → result ≤ 1 → IfSome (F.rest file.old) (λ text. IfSome (S.rest input.old) (λ report. ShowsExpected text report result (K.written output.old) (K.written output.new))) }
+    // `--check`: a report of which something was shown is right.
+    ensures checked { asks_for_check (words_of words.now) ≡ true → result ≤ 1 → IfSome (S.rest input.old) (λ report. verdict_on report ≡ Right) }
     ensures file_unread { (form_asked (words_of words.now) ≡ Some Expect → ⊥) → file.new ≡ file.old }
 
     // Words of no form, for which nothing is read: the usage. 2 comes with them alone.
@@ -82,6 +88,7 @@ fn with_file<S: Source, F: Source, K: Sink>(
     ensures form { result ≢ 2 }
     ensures refused { asked.form ≡ Refused → result ≤ 1 → IfSome (S.rest input.old) (λ report. ShowsRefused report result (K.written output.old) (K.written output.new)) }
     ensures expected { asked.form ≡ Expect → result ≤ 1 → IfSome (F.rest file.old) (λ text. IfSome (S.rest input.old) (λ report. ShowsExpected text report result (K.written output.old) (K.written output.new))) }
+    ensures checked { asked.check ≡ true → result ≤ 1 → IfSome (S.rest input.old) (λ report. verdict_on report ≡ Right) }
     ensures file_unread { (asked.form ≡ Expect → ⊥) → file.new ≡ file.old }
 {
     match asked.form {
@@ -106,6 +113,7 @@ fn with_input<S: Source, K: Sink>(
     ensures form { result ≢ 2 }
     ensures refused { asked.form ≡ Refused → result ≤ 1 → IfSome (S.rest input.old) (λ report. ShowsRefused report result (K.written output.old) (K.written output.new)) }
     ensures expected { asked.form ≡ Expect → result ≤ 1 → IfSome (S.rest input.old) (λ report. ShowsExpected file.now report result (K.written output.old) (K.written output.new)) }
+    ensures checked { asked.check ≡ true → result ≤ 1 → IfSome (S.rest input.old) (λ report. verdict_on report ≡ Right) }
 {
     match read_all(alloc, input, REPORT_LIMIT) {
         Ok(report) => with_report(alloc, asked, file, &report, output),
@@ -113,8 +121,38 @@ fn with_input<S: Source, K: Sink>(
     }
 }
 
-/// Shows a report, or writes its first wrong line. Returns the status.
+/// Shows a report, or writes its first wrong line: where it is to be checked, the first that `mcrun check` finds. Returns the status.
 fn with_report<K: Sink>(
+    alloc: Global,
+    asked: Asked,
+    file: &[u8],
+    report: &[u8],
+    output: &mut K,
+) -> u8
+    requires report { length report.now < 4_294_967_295 }
+    requires file { length file.now ≤ 8388608 }
+    ensures shows { Shows K.Sink result output.old output.new }
+    ensures refused { asked.form ≡ Refused → result ≤ 1 → ShowsRefused report.now result (K.written output.old) (K.written output.new) }
+    ensures expected { asked.form ≡ Expect → result ≤ 1 → ShowsExpected file.now report.now result (K.written output.old) (K.written output.new) }
+    ensures checked { asked.check ≡ true → result ≤ 1 → verdict_on report.now ≡ Right }
+{
+    if !asked.check {
+        return show_report(alloc, asked, file, report, output);
+    }
+    match check(alloc, report) {
+        Ok(Verdict::Right) => show_report(alloc, asked, file, report, output),
+        Ok(Verdict::Wrong { line, reason }) => {
+            after_write(
+                write_wrong(line, reason_word(reason), output),
+                status::NO_REPORT,
+            )
+        }
+        Err(NoMemory) => status::NO_MEMORY,
+    }
+}
+
+/// Shows a report, or writes the first line of it that is wrong by its text. Returns the status.
+fn show_report<K: Sink>(
     alloc: Global,
     asked: Asked,
     file: &[u8],

@@ -3,6 +3,18 @@
 ghost use Rattle.report_view.specs.Texts.{PutsText, WritesText};
 
 use outer_io::{Failed, Sink, Writer};
+use report_check::CheckReason;
+
+/// Returns the word for why a line is wrong.
+pub fn reason_word(reason: CheckReason) -> &'static [u8] {
+    match reason {
+        CheckReason::Text => b"text",
+        CheckReason::Step => b"step",
+        CheckReason::Script => b"script",
+        CheckReason::Link => b"link",
+        CheckReason::Total => b"total",
+    }
+}
 
 /// Writes the first wrong line of an input, and why it is wrong, as `mcrun check` does.
 ///

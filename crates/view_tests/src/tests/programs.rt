@@ -240,7 +240,7 @@ domain 1, 7: 1.0 create 1
 ";
 
 const USAGE: &str =
-    "usage: mcview refused | text [--domain D] [--channel D N] [--line K] [--refused] [--together] | expect FILE\n";
+    "usage: mcview refused | text [--domain D] [--channel D N] [--line K] [--refused] [--together] | expect FILE, each [--check]\n";
 
 /// The number of no call of a source or sink.
 const NEVER: u64 = 1_000_000_000;
@@ -304,7 +304,7 @@ fn unfailing<'a>(words: &'a [&'a str], text: &'a [u8]) -> Given<'a> {
 /// Words and a text, and the status and the output that come of them.
 type Outcome<'a> = (&'a [&'a str], &'a str, u8, &'a str);
 
-static OUTCOMES: [Outcome<'static>; 30] = [
+static OUTCOMES: [Outcome<'static>; 32] = [
     (&["refused"], ONE_BUFFER, 1, ONE_BUFFER_REFUSED),
     (&["refused"], WAIT, 1, "6 0 2 0.0 wait far 3: timeout\n"),
     (&["text"], ONE_BUFFER, 0, ONE_BUFFER_TEXT),
@@ -338,6 +338,9 @@ static OUTCOMES: [Outcome<'static>; 30] = [
         QUEUED_WAIT,
     ),
     (&["text"], TAKEN, 0, TAKEN_TEXT),
+    // A report that is not right is not shown where it is checked.
+    (&["text", "--check"], TAKEN, 3, "wrong 7 step\n"),
+    (&["refused", "--check"], ONE_BUFFER, 1, ONE_BUFFER_REFUSED),
     (&["text", "--together"], TAKEN, 3, "wrong 7 order\n"),
     // An option counts as it is given last.
     (

@@ -26,3 +26,6 @@ returns-in-Err-clause-refused g c = λ is few. absurd (not_read c.in-Err.fault c
 
 pub returns-in-Err-clause-expected : goal.returns-in-Err-clause-expected
 returns-in-Err-clause-expected g c = λ is few. absurd (not_read c.in-Err.fault c.after_read.result c.after_read.ensures few)
+
+pub returns-in-Err-clause-checked : goal.returns-in-Err-clause-checked
+returns-in-Err-clause-checked g c = λ is few. absurd (not_read c.in-Err.fault c.after_read.result c.after_read.ensures few)

@@ -1,3 +1,6 @@
+use Rattle.std.proofs.Common.{◌≡◌}
+use Rattle.report_text.specs.Verdicts.{verdict_on}
+use Rattle.report_text.specs.declared.verdict.Verdict.TheVariants.{Right}
 use Rattle.view_cli.specs.ExpectedAnswers.{ShowsExpected}
 use Rattle.view_cli.specs.RefusedCalls.{ShowsRefused}
 use Rattle.view_cli.proofs.Inputs.{if_text, ok-differs}
@@ -29,3 +32,11 @@ returns-in-Err-clause-refused g c = λ is few. absurd (not_read c.in-Err.fault c
 
 pub returns-in-Err-clause-expected : goal.returns-in-Err-clause-expected
 returns-in-Err-clause-expected g c = λ is few. absurd (not_read c.in-Err.fault c.after_read.result c.after_read.ensures few)
+
+pub returns-in-Err-clause-checked : goal.returns-in-Err-clause-checked
+returns-in-Err-clause-checked g c = λ is few. absurd (not_read c.in-Err.fault c.after_read.result c.after_read.ensures few)
+
+pub returns-in-Ok-clause-checked : goal.returns-in-Ok-clause-checked
+returns-in-Ok-clause-checked g c = λ is few.
+    let bytes = rw (← c.deref.ensures.value) at c.in-Ok.ensures.bytes in
+    if_text _ _ c.deref.result.now (λ report. verdict_on report ≡ Right) bytes c.in-Ok.ensures.end (c.with_report.ensures.checked is few)
