@@ -1,0 +1,2 @@
+mod EndsKept
+mod EventLists
