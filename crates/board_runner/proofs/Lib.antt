@@ -42,6 +42,7 @@ pub mod TallyLemmas
 pub mod TwoPlaces
 pub mod HoldingLemmas
 pub mod PeersFound
+pub mod PieceLemmas
 pub mod NumberedMoves
 pub mod ToldMoves
 pub mod ToldTraffic

@@ -1,7 +1,7 @@
 -- A call at a domain alone is the call of a line at the line's station.
-use Rattle.std.proofs.Common.{◌≡◌, ℕ, ◌<◌, ◌≤◌, ◌^◌, List, [], ◌∷◌, ◌++◌, map, Option, Some, None, option_map, option_to_list, refl, sym, ap, ◌∙◌, subst, append-nil}
+use Rattle.std.proofs.Common.{◌≡◌, ℕ, ◌<◌, ◌≤◌, ◌^◌, List, [], ◌∷◌, ◌++◌, map, Option, Some, None, option_map, option_to_list, refl, sym, ap, ap₂, ◌∙◌, subst, append-nil, take}
 use Rattle.std.specs.Prelude.{IfSome, IfOk, IfErr, IsErr, IsNone, length, Result, Ok, Err}
-use Rattle.std.specs.Borrow.{Bor}
+use Rattle.std.proofs.lemmas.List.{length-take-le}
 use Rattle.std.specs.Result.{result_ok}
 use Rattle.mc_base.specs.declared.name.EndName.{EndName}
 use Rattle.mc_base.specs.declared.refusal.NoMemory.{NoMemory}
@@ -115,18 +115,22 @@ test_lends s place old new packets lent (Ok (done.Ended w)) out n within same do
 
 -- ---- packets by their bytes
 
--- the answer by the bytes of the packet that is lent, or by the word where there is none
-pub whole_told : (p : Option LentPacket) (r : Result (Bor (List ℕ)) Refusal) (a : PlainAnswer) → IfOk r (λ b. Some b.now ≡ option_map (λ p. p.item.content) p) → (IsErr r → IsNone p) → (IsNone p → IsErr r) → IfErr r (λ w. w ≡ BufInvalid) → IfOk r (λ b. a ≡ gives_bytes (length b.now) b.now) → IfErr r (λ w. a ≡ refuses w) → a ≡ gives_whole p
-whole_told None (Ok b) a bytes one two word given refused = absurd cc
-whole_told (Some p) (Ok b) a bytes one two word given refused = let same : b.now ≡ p.item.content = cc in given ∙ ap (λ (bs : List ℕ). gives_bytes (length bs) bs) same
-whole_told None (Err w) a bytes one two word given refused = refused ∙ ap refuses word
-whole_told (Some p) (Err w) a bytes one two word given refused = let none = one refl in absurd cc
+-- the answer by the bytes of the packet that is lent, which are the first of a room, or by the word where there is none
+pub whole_told : (p : Option LentPacket) (r : Result ℕ Refusal) (room : List ℕ) (a : PlainAnswer) → IfOk r (λ n. Some (take n room) ≡ option_map (λ p. p.item.content) p) → IfOk r (λ n. n ≤ length room) → (IsErr r → IsNone p) → (IsNone p → IsErr r) → IfErr r (λ w. w ≡ BufInvalid) → IfOk r (λ n. a ≡ gives_bytes n (take n room)) → IfErr r (λ w. a ≡ refuses w) → a ≡ gives_whole p
+whole_told None (Ok n) room a bytes fits one two word given refused = absurd cc
+whole_told (Some p) (Ok n) room a bytes fits one two word given refused =
+    let same : take n room ≡ p.item.content = cc in
+    given ∙ ap₂ gives_bytes (sym (length-take-le n room fits) ∙ ap length same) same
+whole_told None (Err w) room a bytes fits one two word given refused = refused ∙ ap refuses word
+whole_told (Some p) (Err w) room a bytes fits one two word given refused = let none = one refl in absurd cc
 
-pub whole_brought : (place : Option ℕ) (p : Option LentPacket) (r : Result (Bor (List ℕ)) Refusal) (a : PlainAnswer) → IfOk r (λ b. Some b.now ≡ option_map (λ p. p.item.content) p) → (IsErr r → IsNone p) → (IsNone p → IsErr r) → IfErr r (λ w. w ≡ BufInvalid) → IfOk r (λ b. a ≡ completes place (brought (length b.now) b.now)) → IfErr r (λ w. a ≡ completes place (ended_by w)) → a ≡ completes place (brings_whole p)
-whole_brought place None (Ok b) a bytes one two word given refused = absurd cc
-whole_brought place (Some p) (Ok b) a bytes one two word given refused = let same : b.now ≡ p.item.content = cc in given ∙ ap (λ (bs : List ℕ). completes place (brought (length bs) bs)) same
-whole_brought place None (Err w) a bytes one two word given refused = refused ∙ ap (λ (v : Refusal). completes place (ended_by v)) word
-whole_brought place (Some p) (Err w) a bytes one two word given refused = let none = one refl in absurd cc
+pub whole_brought : (place : Option ℕ) (p : Option LentPacket) (r : Result ℕ Refusal) (room : List ℕ) (a : PlainAnswer) → IfOk r (λ n. Some (take n room) ≡ option_map (λ p. p.item.content) p) → IfOk r (λ n. n ≤ length room) → (IsErr r → IsNone p) → (IsNone p → IsErr r) → IfErr r (λ w. w ≡ BufInvalid) → IfOk r (λ n. a ≡ completes place (brought n (take n room))) → IfErr r (λ w. a ≡ completes place (ended_by w)) → a ≡ completes place (brings_whole p)
+whole_brought place None (Ok n) room a bytes fits one two word given refused = absurd cc
+whole_brought place (Some p) (Ok n) room a bytes fits one two word given refused =
+    let same : take n room ≡ p.item.content = cc in
+    given ∙ ap₂ (λ (k : ℕ) (bs : List ℕ). completes place (brought k bs)) (sym (length-take-le n room fits) ∙ ap length same) same
+whole_brought place None (Err w) room a bytes fits one two word given refused = refused ∙ ap (λ (v : Refusal). completes place (ended_by v)) word
+whole_brought place (Some p) (Err w) room a bytes fits one two word given refused = let none = one refl in absurd cc
 
 -- ---- a call
 

@@ -70,7 +70,7 @@ pub fn of_receive<'a>(made: Result<Got, Refusal>, out: &'a [u8]) -> Answer<'a>
     match made {
         Ok(got) => Answer::Bytes {
             size: got.size,
-            bytes: given_of(got, out),
+            bytes: front_of(got.given, out),
         },
         Err(word) => Answer::Refused(word),
     }
@@ -116,48 +116,46 @@ fn told<'a>(done: Done, out: &'a [u8]) -> Told<'a>
         Done::Rejected(reason) => Told::Rejected(reason),
         Done::Message(got) => Told::Bytes {
             size: got.size,
-            bytes: given_of(got, out),
+            bytes: front_of(got.given, out),
         },
         Done::Packet(_) => unreachable!(), // A packet is told by `of_tested_packet`.
         Done::Ended(word) => Told::Ended(word),
     }
 }
 
-/// Of a receive of a packet, by the bytes of the packet that is lent. They are copied to the front of `out`.
-pub fn of_packet<'a>(bytes: Result<&[u8], Refusal>, out: &'a mut [u8]) -> Answer<'a>
-    requires fits { IfOk bytes (λ b. length b.now ≤ length out.old) }
-    requires small { IfOk bytes (λ b. length b.now < 2 ^ 32) }
-    ensures given { IfOk bytes.entry (λ b. plain_answer result ≡ gives (length b.now) b.now) }
-    ensures refused { IfErr bytes.entry (λ word. plain_answer result ≡ refuses word) }
-    ensures within { bytes_in_answer result ≤ length out.old }
+/// Of a receive of a packet, by its size. Its bytes are at the front of `out`.
+pub fn of_packet<'a>(size: Result<u32, Refusal>, out: &'a [u8]) -> Answer<'a>
+    requires { IfOk size (λ n. n ≤ length out.now) }
+    ensures given { IfOk size (λ n. plain_answer result ≡ gives n (take n out.now)) }
+    ensures refused { IfErr size (λ word. plain_answer result ≡ refuses word) }
+    ensures within { bytes_in_answer result ≤ length out.now }
 {
-    match bytes {
-        Ok(bytes) => Answer::Bytes {
-            size: bytes.len() as u32,
-            bytes: copied(bytes, out),
+    match size {
+        Ok(size) => Answer::Bytes {
+            size,
+            bytes: front_of(size, out),
         },
         Err(word) => Answer::Refused(word),
     }
 }
 
-/// Of a test or a wait that brought a packet, by the bytes of the packet that is lent. They are copied to the front of `out`.
+/// Of a test or a wait that brought a packet, by its size. Its bytes are at the front of `out`.
 pub fn of_tested_packet<'a>(
     place: Option<u8>,
-    bytes: Result<&[u8], Refusal>,
-    out: &'a mut [u8],
+    size: Result<u32, Refusal>,
+    out: &'a [u8],
 ) -> Answer<'a>
-    requires fits { IfOk bytes (λ b. length b.now ≤ length out.old) }
-    requires small { IfOk bytes (λ b. length b.now < 2 ^ 32) }
-    ensures given { IfOk bytes.entry (λ b. plain_answer result ≡ completes place (brought (length b.now) b.now)) }
-    ensures refused { IfErr bytes.entry (λ word. plain_answer result ≡ completes place (ended_by word)) }
-    ensures within { bytes_in_answer result ≤ length out.old }
+    requires { IfOk size (λ n. n ≤ length out.now) }
+    ensures given { IfOk size (λ n. plain_answer result ≡ completes place (brought n (take n out.now))) }
+    ensures refused { IfErr size (λ word. plain_answer result ≡ completes place (ended_by word)) }
+    ensures within { bytes_in_answer result ≤ length out.now }
 {
-    match bytes {
-        Ok(bytes) => Answer::Done {
+    match size {
+        Ok(size) => Answer::Done {
             place,
             result: Told::Bytes {
-                size: bytes.len() as u32,
-                bytes: copied(bytes, out),
+                size,
+                bytes: front_of(size, out),
             },
         },
         Err(word) => Answer::Done {
@@ -165,16 +163,6 @@ pub fn of_tested_packet<'a>(
             result: Told::Ended(word),
         },
     }
-}
-
-/// Copies bytes to the front of `out`, and returns them there.
-fn copied<'a>(bytes: &[u8], out: &'a mut [u8]) -> &'a [u8]
-    requires { length bytes.now ≤ length out.old }
-    ensures { result.now ≡ bytes.now }
-{
-    let (front, _) = out.split_at_mut(bytes.len());
-    front.copy_from_slice(bytes);
-    front
 }
 
 /// Of a receive of a number.
@@ -188,11 +176,11 @@ pub fn of_scalar(made: Result<u64, Refusal>) -> Answer<'static>
     }
 }
 
-/// The bytes that were given.
-fn given_of<'a>(got: Got, out: &'a [u8]) -> &'a [u8]
-    requires { got.given ≤ length out.now }
-    ensures { result.now ≡ take got.given out.now }
+/// The first bytes of `out`, so many.
+fn front_of<'a>(count: u32, out: &'a [u8]) -> &'a [u8]
+    requires { count ≤ length out.now }
+    ensures { result.now ≡ take count out.now }
 {
-    let (bytes, _) = out.split_at(got.given as usize);
+    let (bytes, _) = out.split_at(count as usize);
     bytes
 }

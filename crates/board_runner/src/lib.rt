@@ -18,6 +18,7 @@ mod links;
 mod opening;
 mod outcome;
 mod owned;
+mod packets;
 mod report;
 mod rings;
 mod script;

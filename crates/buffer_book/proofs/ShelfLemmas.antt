@@ -1,6 +1,6 @@
 -- Shelves as the code goes over them.
 use Rattle.std.proofs.Common.{◌≡◌, ℕ, zero, suc, ◌+◌, ◌<◌, Bool, true, false, cond, not, List, [], ◌∷◌, length, map, Option, Some, None, refl, sym, ap, subst, ◌∙◌, arith, get_or, take, drop, ◌++◌}
-use Rattle.std.specs.Prelude.{position, slice_get, slice_set, option_and_then, option_map, find, ◌==◌, nat_lt, IsSome}
+use Rattle.std.specs.Prelude.{position, slice_get, slice_set, option_and_then, find, is_some, ◌==◌, nat_lt, IsSome, IsNone}
 use Rattle.std.specs.List.{AllByRecursion, position_or_len}
 use Rattle.std.proofs.lemmas.Bool.{eqb-true, ltb-false}
 use Rattle.std.proofs.lemmas.List.{length-map}
@@ -8,8 +8,9 @@ use Rattle.std.proofs.lemmas.List.Folds.{find_at}
 use Rattle.std.proofs.Math.Seq.{take-append_seam}
 use Rattle.std.proofs.lemmas.Option.{slice_get_past, slice_get_read, slice_get_within, cond_some}
 use Rattle.mc_base.specs.declared.request.Slot.{Slot}
-use Rattle.buffer_book.specs.Book.{Kept, Shelf, AllDiffer, empty_shelf, with_in}
-use Rattle.buffer_book.specs.Shelves.{place_in, kept_in, with_place_in, PeersDiffer, kept_on_place, with_place_on, lent_under}
+use Rattle.std.specs.Option.{option_or}
+use Rattle.buffer_book.specs.Book.{Kept, Item, Aside, Shelf, AllDiffer, empty_shelf, with_own, item_as, item_on, item_at, item_of_shelf, queued_at, if_state, frame_on, frames_of, kept_on_place, place_aside, aside_on, enqueued, aside_of, taken, taken_named, taken_named_of, taken_aside, taken_aside_of}
+use Rattle.buffer_book.specs.Shelves.{shelved, place_in, item_in, frame_in, with_shelf_in, PeersDiffer}
 
 -- ---- the shelf of a peer
 
@@ -28,90 +29,106 @@ find-position p xs = find_at p xs ∙ found-by xs (position_or_len p xs) (nat_lt
 pub found-at : (ss : List Shelf) (peer i : ℕ) (s : Shelf) → position (is_shelf_of peer) ss ≡ Some i → i < length ss → s ≡ get_or ss i s → find (is_shelf_of peer) ss ≡ Some s
 found-at ss peer i s place lt read = find-position (is_shelf_of peer) ss ∙ ap (option_and_then (λ j. slice_get ss j)) place ∙ slice_get_read ss (length ss) i s refl lt read
 
-pub kept-at : (ss : List Shelf) (slot : Slot) (i : ℕ) (s : Shelf) → position (is_shelf_of slot.peer) ss ≡ Some i → i < length ss → s ≡ get_or ss i s → kept_in ss slot ≡ kept_on_place s.places slot.buffer
-kept-at ss slot i s place lt read = ap (λ (o : Option Shelf). option_and_then (λ p. p) (option_and_then (λ (x : Shelf). slice_get x.places slot.buffer) o)) (found-at ss slot.peer i s place lt read)
-
-pub place-at : (ss : List Shelf) (slot : Slot) (i : ℕ) (s : Shelf) → position (is_shelf_of slot.peer) ss ≡ Some i → i < length ss → s ≡ get_or ss i s → place_in ss slot ≡ slice_get s.places slot.buffer
-place-at ss slot i s place lt read = ap (λ (o : Option Shelf). option_and_then (λ (x : Shelf). slice_get x.places slot.buffer) o) (found-at ss slot.peer i s place lt read)
-
 -- without a place there is no shelf
 pub not-found : (ss : List Shelf) (peer : ℕ) → position (is_shelf_of peer) ss ≡ None → find (is_shelf_of peer) ss ≡ None
 not-found ss peer none = find-position (is_shelf_of peer) ss ∙ ap (option_and_then (λ j. slice_get ss j)) none
 
-pub none-kept : (ss : List Shelf) (slot : Slot) → position (is_shelf_of slot.peer) ss ≡ None → kept_in ss slot ≡ None
-none-kept ss slot none = ap (λ (o : Option Shelf). option_and_then (λ p. p) (option_and_then (λ (x : Shelf). slice_get x.places slot.buffer) o)) (not-found ss slot.peer none)
+or-none : {X : Type 0} (o : Option X) → option_or o None ≡ o
+or-none None = refl
+or-none (Some x) = refl
 
-pub none-there : (ss : List Shelf) (slot : Slot) → position (is_shelf_of slot.peer) ss ≡ None → place_in ss slot ≡ None
-none-there ss slot none = ap (λ (o : Option Shelf). option_and_then (λ (x : Shelf). slice_get x.places slot.buffer) o) (not-found ss slot.peer none)
+-- the item that a slot names is one of the shelf
+pub item-found : (ss : List Shelf) (slot : Slot) (lent : Option ℕ) (s : Shelf) → find (is_shelf_of slot.peer) ss ≡ Some s → item_in ss slot lent ≡ item_of_shelf s slot.buffer lent
+item-found ss slot None s found = ap (λ (o : Option Shelf). option_and_then (if_state None) (option_and_then (λ (x : Shelf). item_on x.items slot.buffer) o)) found ∙ sym (or-none (item_as s.items slot.buffer None))
+item-found ss slot (Some serial) s found = ap (λ (o : Option Shelf). option_and_then (λ (x : Shelf). item_of_shelf x slot.buffer (Some serial)) o) found
 
-some-within : {X : Type 0} (xs : List X) (i : ℕ) (o : Option X) → slice_get xs i ≡ o → IsSome o → i < length xs
-some-within xs i None is h = absurd cc
-some-within xs i (Some x) is h = slice_get_within xs i x is
+pub item-missing : (ss : List Shelf) (slot : Slot) (lent : Option ℕ) → find (is_shelf_of slot.peer) ss ≡ None → item_in ss slot lent ≡ None
+item-missing ss slot None none = ap (λ (o : Option Shelf). option_and_then (if_state None) (option_and_then (λ (x : Shelf). item_on x.items slot.buffer) o)) none
+item-missing ss slot (Some serial) none = ap (λ (o : Option Shelf). option_and_then (λ (x : Shelf). item_of_shelf x slot.buffer (Some serial)) o) none
 
--- a number that has a place stands below the shelf's size
-pub number-within : (ss : List Shelf) (slot : Slot) (i : ℕ) (s : Shelf) → IsSome (place_in ss slot) → position (is_shelf_of slot.peer) ss ≡ Some i → i < length ss → s ≡ get_or ss i s → slot.buffer < length s.places
-number-within ss slot i s there place lt read = some-within s.places slot.buffer (place_in ss slot) (sym (place-at ss slot i s place lt read)) there
+abbrev frame_of_shelf : ℕ → Option Shelf → Item → Option Kept
+frame_of_shelf n o i = option_and_then (λ f. option_and_then (λ p. p) (option_and_then (λ (s : Shelf). slice_get s.places f) o)) (slice_get (frames_of i) n)
 
--- where a slot has a place, its peer has a shelf
-pub some-place : (ss : List Shelf) (slot : Slot) → IsSome (place_in ss slot) → position (is_shelf_of slot.peer) ss ≡ None → ⊥
-some-place ss slot there none = let gone = none-there ss slot none in cc
+-- and so is its frame
+pub frame-found : (ss : List Shelf) (slot : Slot) (lent : Option ℕ) (n : ℕ) (s : Shelf) → find (is_shelf_of slot.peer) ss ≡ Some s → option_and_then (frame_in ss slot n) (item_in ss slot lent) ≡ option_and_then (frame_on s n) (item_of_shelf s slot.buffer lent)
+frame-found ss slot lent n s found =
+    ap (option_and_then (frame_in ss slot n)) (item-found ss slot lent s found)
+    ∙ ap (λ (o : Option Shelf). option_and_then (frame_of_shelf n o) (item_of_shelf s slot.buffer lent)) found
 
-pub some-kept : (ss : List Shelf) (slot : Slot) → IsSome (kept_in ss slot) → position (is_shelf_of slot.peer) ss ≡ None → ⊥
-some-kept ss slot held none = let gone = none-kept ss slot none in cc
+pub frame-missing : (ss : List Shelf) (slot : Slot) (lent : Option ℕ) (n : ℕ) → find (is_shelf_of slot.peer) ss ≡ None → option_and_then (frame_in ss slot n) (item_in ss slot lent) ≡ None
+frame-missing ss slot lent n none = ap (option_and_then (frame_in ss slot n)) (item-missing ss slot lent none)
 
-pub held-there : (ss : List Shelf) (slot : Slot) (i : ℕ) (s : Shelf) → IsSome (kept_in ss slot) → position (is_shelf_of slot.peer) ss ≡ Some i → i < length ss → s ≡ get_or ss i s → IsSome (kept_on_place s.places slot.buffer)
-held-there ss slot i s held place lt read = subst (λ (o : Option Kept). IsSome o) (kept-at ss slot i s place lt read) held
+-- what a place of a slot tells of the shelf
+pub place-there : (ss : List Shelf) (slot : Slot) (s : Shelf) → find (is_shelf_of slot.peer) ss ≡ Some s → place_in ss slot ≡ Some None → slice_get s.places slot.buffer ≡ Some None
+place-there ss slot s found away = sym (ap (λ (o : Option Shelf). option_and_then (λ (x : Shelf). slice_get x.places slot.buffer) o) found) ∙ away
 
--- ---- one place changed
+pub place-away : (ss : List Shelf) (slot : Slot) (s : Shelf) → find (is_shelf_of slot.peer) ss ≡ Some s → place_in ss slot ≡ Some None → (kept_on_place s.places slot.buffer ≡ None) × (slot.buffer < length s.places)
+place-away ss slot s found away =
+    let there = place-there ss slot s found away in
+    (ap (λ (o : Option (Option Kept)). option_and_then (λ p. p) o) there, slice_get_within s.places slot.buffer None there)
+
+pub no-place : (ss : List Shelf) (slot : Slot) → position (is_shelf_of slot.peer) ss ≡ None → place_in ss slot ≡ Some None → ⊥
+no-place ss slot none away =
+    let gone : place_in ss slot ≡ None = ap (λ (o : Option Shelf). option_and_then (λ (x : Shelf). slice_get x.places slot.buffer) o) (not-found ss slot.peer none) in
+    let no : None ≡ Some None = sym gone ∙ away in
+    absurd cc
+
+pub named-there : (ss : List Shelf) (slot : Slot) (s : Shelf) → find (is_shelf_of slot.peer) ss ≡ Some s → item_at (shelved ss) slot ≡ item_on s.items slot.buffer
+named-there ss slot s found = ap (λ (o : Option Shelf). option_and_then (λ (x : Shelf). item_on x.items slot.buffer) o) found
+
+pub unqueued-there : (ss : List Shelf) (slot : Slot) (s : Shelf) → find (is_shelf_of slot.peer) ss ≡ Some s → IsNone (queued_at (shelved ss) slot) → IsNone (item_as s.items slot.buffer None)
+unqueued-there ss slot s found free = subst (λ (o : Option Shelf). IsNone (option_and_then (if_state None) (option_and_then (λ (x : Shelf). item_on x.items slot.buffer) o))) found free
+
+pub no-item : (ss : List Shelf) (slot : Slot) → position (is_shelf_of slot.peer) ss ≡ None → IsSome (item_at (shelved ss) slot) → ⊥
+no-item ss slot none named =
+    let gone : item_at (shelved ss) slot ≡ None = ap (λ (o : Option Shelf). option_and_then (λ (x : Shelf). item_on x.items slot.buffer) o) (not-found ss slot.peer none) in
+    let no : IsSome {T = Item} None = subst (λ (o : Option Item). IsSome o) gone named in
+    absurd cc
+
+-- ---- one shelf changed
 
 -- a shelf of another peer stays
-pub other-stays : (slot : Slot) (kept : Option Kept) (s : Shelf) → (s.peer == slot.peer) ≡ false → with_in slot kept s ≡ s
-other-stays slot kept s other = rw other refl
+pub other-stays : (peer : ℕ) (change : Shelf → Shelf) (s : Shelf) → (s.peer == peer) ≡ false → with_own peer change s ≡ s
+other-stays peer change s other = rw other refl
 
-pub own-changes : (slot : Slot) (kept : Option Kept) (s : Shelf) → (s.peer == slot.peer) ≡ true → with_in slot kept s ≡ with_place_on s slot.buffer kept
-own-changes slot kept s own = rw own refl
+pub own-changes : (peer : ℕ) (change : Shelf → Shelf) (s : Shelf) → (s.peer == peer) ≡ true → with_own peer change s ≡ change s
+own-changes peer change s own = rw own refl
 
-others-stay : (slot : Slot) (kept : Option Kept) (peer : ℕ) (ss : List Shelf) → peer ≡ slot.peer → AllByRecursion (λ m. (m == peer) ≡ false) (map (λ (s : Shelf). s.peer) ss) → map (with_in slot kept) ss ≡ ss
-others-stay slot kept peer [] same differ = refl
-others-stay slot kept peer (s ∷ ss) same differ =
-    ap (λ (x : Shelf). x ∷ map (with_in slot kept) ss) (other-stays slot kept s (subst (λ n. (s.peer == n) ≡ false) same differ.0))
-    ∙ ap (λ (xs : List Shelf). s ∷ xs) (others-stay slot kept peer ss same differ.1)
+pub others-stay : (own : ℕ) (change : Shelf → Shelf) (peer : ℕ) (ss : List Shelf) → peer ≡ own → AllByRecursion (λ m. (m == peer) ≡ false) (map (λ (s : Shelf). s.peer) ss) → map (with_own own change) ss ≡ ss
+others-stay own change peer [] same differ = refl
+others-stay own change peer (s ∷ ss) same differ =
+    ap (λ (x : Shelf). x ∷ map (with_own own change) ss) (other-stays own change s (subst (λ n. (s.peer == n) ≡ false) same differ.0))
+    ∙ ap (λ (xs : List Shelf). s ∷ xs) (others-stay own change peer ss same differ.1)
 
 -- a write at a peer's first shelf is the change of all its shelves, since it has one
-set-first : (slot : Slot) (kept : Option Kept) (ss : List Shelf) (i : ℕ) (s t : Shelf) → PeersDiffer ss → i ≡ position_or_len (is_shelf_of slot.peer) ss → i < length ss → s ≡ get_or ss i s → t ≡ with_place_on s slot.buffer kept → slice_set ss i t ≡ with_place_in ss slot kept
-set-first slot kept [] i s t differ first lt read is = absurd (omega arith)
-set-first slot kept (x ∷ ss) zero s t differ first lt read is =
-    elim (x.peer == slot.peer) as (λ b. (x.peer == slot.peer) ≡ b → 0 ≡ cond (not b) (1 + position_or_len (is_shelf_of slot.peer) ss) 0 → t ∷ ss ≡ with_place_in (x ∷ ss) slot kept) [
+set-first : (peer : ℕ) (change : Shelf → Shelf) (ss : List Shelf) (i : ℕ) (s t : Shelf) → PeersDiffer ss → i ≡ position_or_len (is_shelf_of peer) ss → i < length ss → s ≡ get_or ss i s → t ≡ change s → slice_set ss i t ≡ with_shelf_in ss peer change
+set-first peer change [] i s t differ first lt read is = absurd (omega arith)
+set-first peer change (x ∷ ss) zero s t differ first lt read is =
+    elim (x.peer == peer) as (λ b. (x.peer == peer) ≡ b → 0 ≡ cond (not b) (1 + position_or_len (is_shelf_of peer) ss) 0 → t ∷ ss ≡ with_shelf_in (x ∷ ss) peer change) [
       | true ↦ λ own first.
-          ap (λ (y : Shelf). y ∷ ss) (is ∙ ap (λ (y : Shelf). with_place_on y slot.buffer kept) read ∙ sym (own-changes slot kept x own))
-          ∙ ap (λ (xs : List Shelf). with_in slot kept x ∷ xs) (sym (others-stay slot kept x.peer ss (eqb-true x.peer slot.peer own) differ.0))
+          ap (λ (y : Shelf). y ∷ ss) (is ∙ ap change read ∙ sym (own-changes peer change x own))
+          ∙ ap (λ (xs : List Shelf). with_own peer change x ∷ xs) (sym (others-stay peer change x.peer ss (eqb-true x.peer peer own) differ.0))
       | false ↦ λ other first. absurd (omega arith)
     ] refl first
-set-first slot kept (x ∷ ss) (suc i) s t differ first lt read is =
-    elim (x.peer == slot.peer) as (λ b. (x.peer == slot.peer) ≡ b → suc i ≡ cond (not b) (1 + position_or_len (is_shelf_of slot.peer) ss) 0 → x ∷ slice_set ss i t ≡ with_place_in (x ∷ ss) slot kept) [
+set-first peer change (x ∷ ss) (suc i) s t differ first lt read is =
+    elim (x.peer == peer) as (λ b. (x.peer == peer) ≡ b → suc i ≡ cond (not b) (1 + position_or_len (is_shelf_of peer) ss) 0 → x ∷ slice_set ss i t ≡ with_shelf_in (x ∷ ss) peer change) [
       | true ↦ λ own first. absurd (omega arith)
       | false ↦ λ other first.
-          ap (λ (xs : List Shelf). x ∷ xs) (set-first slot kept ss i s t differ.1 (omega arith) (omega arith) read is)
-          ∙ ap (λ (y : Shelf). y ∷ with_place_in ss slot kept) (sym (other-stays slot kept x other))
+          ap (λ (xs : List Shelf). x ∷ xs) (set-first peer change ss i s t differ.1 (omega arith) (omega arith) read is)
+          ∙ ap (λ (y : Shelf). y ∷ with_shelf_in ss peer change) (sym (other-stays peer change x other))
     ] refl first
 
 first-place : {X : Type 0} (p : X → Bool) (xs : List X) (i : ℕ) → position p xs ≡ Some i → i ≡ position_or_len p xs
 first-place p xs i place = sym (cond_some (nat_lt (position_or_len p xs) (length xs)) (position_or_len p xs) i place).1
 
-pub set-at : (ss : List Shelf) (slot : Slot) (kept : Option Kept) (i : ℕ) (s t : Shelf) → PeersDiffer ss → position (is_shelf_of slot.peer) ss ≡ Some i → i < length ss → s ≡ get_or ss i s → t ≡ with_place_on s slot.buffer kept → slice_set ss i t ≡ with_place_in ss slot kept
-set-at ss slot kept i s t differ place lt read is = set-first slot kept ss i s t differ (first-place (is_shelf_of slot.peer) ss i place) lt read is
+pub set-at : (ss : List Shelf) (peer : ℕ) (change : Shelf → Shelf) (i : ℕ) (s t : Shelf) → PeersDiffer ss → position (is_shelf_of peer) ss ≡ Some i → i < length ss → s ≡ get_or ss i s → t ≡ change s → slice_set ss i t ≡ with_shelf_in ss peer change
+set-at ss peer change i s t differ place lt read is = set-first peer change ss i s t differ (first-place (is_shelf_of peer) ss i place) lt read is
 
--- the same, where what is held there is lent
-lent-by : (ss : List Shelf) (slot : Slot) (serial i : ℕ) (s t : Shelf) (o : Option Kept) → PeersDiffer ss → position (is_shelf_of slot.peer) ss ≡ Some i → i < length ss → s ≡ get_or ss i s → Some t ≡ option_map (λ (k : Kept). with_place_on s slot.buffer (Some (lent_under serial k))) o → Some (slice_set ss i t) ≡ option_map (λ (k : Kept). with_place_in ss slot (Some (lent_under serial k))) o
-lent-by ss slot serial i s t None differ place lt read is = absurd cc
-lent-by ss slot serial i s t (Some k) differ place lt read is =
-    let same : t ≡ with_place_on s slot.buffer (Some (lent_under serial k)) = cc in
-    ap (λ (xs : List Shelf). Some xs) (set-at ss slot (Some (lent_under serial k)) i s t differ place lt read same)
-
-pub lent-at : (ss : List Shelf) (slot : Slot) (serial i : ℕ) (s t : Shelf) → PeersDiffer ss → position (is_shelf_of slot.peer) ss ≡ Some i → i < length ss → s ≡ get_or ss i s → Some t ≡ option_map (λ (k : Kept). with_place_on s slot.buffer (Some (lent_under serial k))) (kept_on_place s.places slot.buffer) → Some (slice_set ss i t) ≡ option_map (λ (k : Kept). with_place_in ss slot (Some (lent_under serial k))) (kept_in ss slot)
-lent-at ss slot serial i s t differ place lt read is =
-    lent-by ss slot serial i s t (kept_on_place s.places slot.buffer) differ place lt read is
-    ∙ ap (option_map (λ (k : Kept). with_place_in ss slot (Some (lent_under serial k)))) (sym (kept-at ss slot i s place lt read))
+-- what is written as it was leaves the shelves as they were
+pub set-back : {X : Type 0} (xs : List X) (i : ℕ) (x : X) → x ≡ get_or xs i x → slice_set xs i x ≡ xs
+set-back [] i x read = refl
+set-back {X} (y ∷ ys) zero x read = ap (λ (z : X). z ∷ ys) read
+set-back {X} (y ∷ ys) (suc i) x read = ap (λ (zs : List X). y ∷ zs) (set-back ys i x read)
 
 -- ---- the peers stay
 
@@ -122,27 +139,62 @@ opening-peers (s ∷ sizes) = ap (λ ns. s.0 ∷ ns) (opening-peers sizes)
 pub opening-differs : (sizes : List (ℕ × ℕ)) → AllDiffer (map (λ (s : ℕ × ℕ). s.0) sizes) → PeersDiffer (map empty_shelf sizes)
 opening-differs sizes differ = subst AllDiffer (sym (opening-peers sizes)) differ
 
-pub peer-stays : (slot : Slot) (kept : Option Kept) (s : Shelf) → (with_in slot kept s).peer ≡ s.peer
-peer-stays slot kept s =
-    elim (s.peer == slot.peer) as (λ b. (s.peer == slot.peer) ≡ b → (with_in slot kept s).peer ≡ s.peer)
-    [ true ↦ λ own. ap (λ (x : Shelf). x.peer) (own-changes slot kept s own) | false ↦ λ other. ap (λ (x : Shelf). x.peer) (other-stays slot kept s other) ] refl
+-- a change that leaves the peer
+abbrev pub KeepsPeer : (Shelf → Shelf) → Type 0
+KeepsPeer change = (s : Shelf) → (change s).peer ≡ s.peer
 
-peers-stay : (slot : Slot) (kept : Option Kept) (ss : List Shelf) → map (λ (s : Shelf). s.peer) (with_place_in ss slot kept) ≡ map (λ (s : Shelf). s.peer) ss
-peers-stay slot kept [] = refl
-peers-stay slot kept (s ∷ ss) =
-    ap (λ n. n ∷ map (λ (x : Shelf). x.peer) (with_place_in ss slot kept)) (peer-stays slot kept s)
-    ∙ ap (λ ns. s.peer ∷ ns) (peers-stay slot kept ss)
+taken_named-peer : (name : ℕ) (o : Option Item) (s : Shelf) → (taken_named_of name o s).peer ≡ s.peer
+taken_named-peer name None s = refl
+taken_named-peer name (Some i) s = refl
 
-pub differ-stays : (slot : Slot) (kept : Option Kept) (ss : List Shelf) → PeersDiffer ss → PeersDiffer (with_place_in ss slot kept)
-differ-stays slot kept ss differ = subst AllDiffer (sym (peers-stay slot kept ss)) differ
+taken_aside-peer : (place : ℕ) (o : Option Aside) (s : Shelf) → (taken_aside_of place o s).peer ≡ s.peer
+taken_aside-peer place None s = refl
+taken_aside-peer place (Some a) s = refl
+
+taken_at-peer : (o : Option ℕ) (s : Shelf) → (taken_aside o s).peer ≡ s.peer
+taken_at-peer None s = refl
+taken_at-peer (Some place) s = taken_aside-peer place (aside_on s.aside place) s
+
+taken-peer_by : (name : ℕ) (lent : Option ℕ) (b : Bool) (s : Shelf) → (cond b (taken_named name s) (taken_aside (place_aside s.aside name lent) s)).peer ≡ s.peer
+taken-peer_by name lent true s = taken_named-peer name (item_on s.items name) s
+taken-peer_by name lent false s = taken_at-peer (place_aside s.aside name lent) s
+
+pub taken-peer : (name : ℕ) (lent : Option ℕ) → KeepsPeer (taken name lent)
+taken-peer name lent s = taken-peer_by name lent (is_some (item_as s.items name lent)) s
+
+aside-peer : (name : ℕ) (o : Option Item) (s : Shelf) → (aside_of name o s).peer ≡ s.peer
+aside-peer name None s = refl
+aside-peer name (Some i) s = refl
+
+pub enqueued-peer : (number : ℕ) (k : Kept) → KeepsPeer (enqueued number k)
+enqueued-peer number k s = aside-peer number (item_on s.items number) s
+
+pub peer-stays : (peer : ℕ) (change : Shelf → Shelf) (s : Shelf) → KeepsPeer change → (with_own peer change s).peer ≡ s.peer
+peer-stays peer change s keeps =
+    elim (s.peer == peer) as (λ b. (s.peer == peer) ≡ b → (with_own peer change s).peer ≡ s.peer)
+    [ true ↦ λ own. ap (λ (x : Shelf). x.peer) (own-changes peer change s own) ∙ keeps s | false ↦ λ other. ap (λ (x : Shelf). x.peer) (other-stays peer change s other) ] refl
+
+peers-stay : (peer : ℕ) (change : Shelf → Shelf) (ss : List Shelf) → KeepsPeer change → map (λ (s : Shelf). s.peer) (with_shelf_in ss peer change) ≡ map (λ (s : Shelf). s.peer) ss
+peers-stay peer change [] keeps = refl
+peers-stay peer change (s ∷ ss) keeps =
+    ap (λ n. n ∷ map (λ (x : Shelf). x.peer) (with_shelf_in ss peer change)) (peer-stays peer change s keeps)
+    ∙ ap (λ ns. s.peer ∷ ns) (peers-stay peer change ss keeps)
+
+pub differ-stays : (peer : ℕ) (change : Shelf → Shelf) (ss : List Shelf) → KeepsPeer change → PeersDiffer ss → PeersDiffer (with_shelf_in ss peer change)
+differ-stays peer change ss keeps differ = subst AllDiffer (sym (peers-stay peer change ss keeps)) differ
 
 -- the slice of the shelves, written back whole
-pub differ-back : (slot : Slot) (kept : Option Kept) (ss old new : List Shelf) (n : ℕ) → n ≡ length old → old ≡ ss → new ≡ with_place_in old slot kept → PeersDiffer ss → PeersDiffer (take n (new ++ drop (length new) ss))
-differ-back slot kept ss old new n size same is differ =
-    let all : n ≡ length new = size ∙ sym (length-map old (with_in slot kept)) ∙ ap length (sym is) in
-    rw (all, take-append_seam) (subst PeersDiffer (sym is) (differ-stays slot kept old (subst PeersDiffer (sym same) differ)))
+pub differ-back : (peer : ℕ) (change : Shelf → Shelf) (ss old new : List Shelf) (n : ℕ) → KeepsPeer change → n ≡ length old → old ≡ ss → new ≡ with_shelf_in old peer change → PeersDiffer ss → PeersDiffer (take n (new ++ drop (length new) ss))
+differ-back peer change ss old new n keeps size same is differ =
+    let all : n ≡ length new = size ∙ sym (length-map old (with_own peer change)) ∙ ap length (sym is) in
+    rw (all, take-append_seam) (subst PeersDiffer (sym is) (differ-stays peer change old keeps (subst PeersDiffer (sym same) differ)))
 
--- what is lent changes at its place alone
-pub lent-where : (ss new : List Shelf) (slot : Slot) (serial : ℕ) (o : Option Kept) → Some new ≡ option_map (λ (k : Kept). with_place_in ss slot (Some (lent_under serial k))) o → (kept : Option Kept) × (new ≡ with_place_in ss slot kept)
-lent-where ss new slot serial None is = absurd cc
-lent-where ss new slot serial (Some k) is = let same : new ≡ with_place_in ss slot (Some (lent_under serial k)) = cc in (Some (lent_under serial k), same)
+-- the same, where nothing changed
+pub differ-same : (ss old new : List Shelf) (n : ℕ) → n ≡ length old → old ≡ ss → new ≡ old → PeersDiffer ss → PeersDiffer (take n (new ++ drop (length new) ss))
+differ-same ss old new n size same is differ =
+    let all : n ≡ length new = size ∙ ap length (sym is) in
+    rw (all, take-append_seam) (subst PeersDiffer (sym (is ∙ same)) differ)
+
+pub differ-either : {X : Type 0} (o : Option X) (peer : ℕ) (change : Shelf → Shelf) (ss old new : List Shelf) (n : ℕ) → KeepsPeer change → n ≡ length old → old ≡ ss → (IsSome o → new ≡ with_shelf_in old peer change) → (IsNone o → new ≡ old) → PeersDiffer ss → PeersDiffer (take n (new ++ drop (length new) ss))
+differ-either None peer change ss old new n keeps size same some none differ = differ-same ss old new n size same (none refl) differ
+differ-either (Some x) peer change ss old new n keeps size same some none differ = differ-back peer change ss old new n keeps size same (some refl) differ

@@ -1,7 +1,7 @@
 //! The book itself.
-ghost use Rattle.std.specs.Prelude.{◌≡◌, ◌≤◌, ◌+◌, ◌↔◌, ℕ, IfOk, OnOk, OnErr, IsErr, IsNone, Some, map, option_map};
+ghost use Rattle.std.specs.Prelude.{◌≡◌, ◌≤◌, ◌<◌, ◌+◌, ◌↔◌, ℕ, IfOk, IfSome, OnOk, OnErr, IsErr, IsNone, IsSome, None, Some, map, option_map, option_and_then};
 ghost use Rattle.mc_base.specs.Limits.{buffer_size};
-ghost use Rattle.buffer_book.specs.Book.{AllDiffer, opening_book, queued_in, content, IsAway, IsQueued, queued_at, lent_as, slot_of, with_queued, with_lent, with_away, queued_from, lent_from};
+ghost use Rattle.buffer_book.specs.Book.{AllDiffer, opening_book, kept_in_buffer, content, count_of, is_single, frame_at, IsAway, IsQueued, queued_at, lent_as, slot_of, with_queued, with_joined, with_lent, with_taken, queued_from, lent_from, EachHoldsOnce};
 
 use crate::held::HeldBuffer;
 use crate::places::Places;
@@ -11,7 +11,7 @@ use mc_base::{BufInvalid, Buffer, NoMemory, PacketId, Slot};
 use std::alloc::Global;
 use std::marker::Model;
 
-/// What a domain holds of its peers' buffers. Each is in a queue or lent.
+/// What a domain holds of its peers' buffers, each in an item. An item is in a queue or lent.
 #[derive(Debug, Drop)]
 pub struct BufferBook {
     shelves: Vec<PeerShelf>,
@@ -43,28 +43,41 @@ impl BufferBook {
         Ok(BufferBook { shelves, lends: 0 })
     }
 
-    /// Keeps a buffer that was taken from a peer, in a queue from now on. Its content is `size` bytes from byte `start` on, all
-    /// within the buffer's 512.
+    /// Keeps a buffer that was taken from a peer, as the first frame of an item in a queue. Its content is `size` bytes from
+    /// byte `start` on, all within the buffer's 512. No item in a queue has its name; a lent one may.
     pub fn enqueue(&mut self, peer: u8, buffer: Buffer, start: u32, size: u32) -> Slot
         requires away { IsAway self.old (record { peer = peer; buffer = buffer.number }) }
+        requires unqueued { IsNone (queued_at self.old (record { peer = peer; buffer = buffer.number })) }
         requires inside { start + size ≤ buffer_size }
         ensures slot { result ≡ record { peer = peer; buffer = buffer.number } }
-        ensures book { self.new ≡ with_queued self.old result (queued_in buffer start size) }
+        ensures book { self.new ≡ with_queued self.old result (kept_in_buffer buffer start size) }
     {
         let slot = Slot {
             peer,
             buffer: buffer.number(),
         };
-        let held = HeldBuffer::queued(buffer, start, size);
+        let held = HeldBuffer::new(buffer, start, size);
         shelves::put(&mut self.shelves, slot, held);
         slot
     }
 
-    /// Lends a buffer that is in a queue. The serial of its id is the number of lends before, modulo 2^64.
+    /// Keeps a buffer that was taken from the same peer, as the next frame of an item in the queue.
+    pub fn join(&mut self, first: Slot, buffer: Buffer, start: u32, size: u32)
+        requires item { IsQueued self.old first }
+        requires away { IsAway self.old (record { peer = first.peer; buffer = buffer.number }) }
+        requires inside { start + size ≤ buffer_size }
+        ensures { self.new ≡ with_joined self.old first (kept_in_buffer buffer start size) }
+    {
+        let number = buffer.number();
+        let held = HeldBuffer::new(buffer, start, size);
+        shelves::join(&mut self.shelves, first, number, held);
+    }
+
+    /// Lends an item that is in a queue. The serial of its id is the number of lends before, modulo 2^64.
     pub fn lend(&mut self, slot: Slot) -> PacketId
         requires { IsQueued self.old slot }
         ensures id { result ≡ record { peer = slot.peer; buffer = slot.buffer; serial = self.old.lends } }
-        ensures book { Some self.new ≡ option_map (with_lent self.old slot) (queued_at self.old slot) }
+        ensures book { self.new ≡ with_lent self.old slot }
     {
         let serial = self.lends;
         shelves::lend(&mut self.shelves, slot, serial);
@@ -76,63 +89,130 @@ impl BufferBook {
         }
     }
 
-    /// Gives up a lent buffer, which is held no more.
+    /// Gives up the oldest frame of a lent item, and returns whether it was the last. After that the id names nothing.
     ///
     /// # Errors
     ///
-    /// `BufInvalid` exactly where no lent buffer has the id. The book is unchanged then.
-    pub fn release(&mut self, id: PacketId) -> Result<Buffer, BufInvalid>
+    /// `BufInvalid` exactly where no lent item has the id. The book is unchanged then.
+    pub fn release_next(&mut self, id: PacketId) -> Result<(Buffer, bool), BufInvalid>
         ensures refused { IsErr result ↔ IsNone (lent_as self.old id) }
-        ensures buffer { IfOk result (λ b. Some b ≡ option_map (λ k. k.buffer) (lent_as self.old id)) }
-        ensures number { IfOk result (λ b. b.number ≡ id.buffer) }
-        ensures book { OnOk result (self.new ≡ with_away self.old (slot_of id)) }
+        ensures buffer { IfOk result (λ r. Some r.0 ≡ option_map (λ k. k.buffer) (option_and_then (frame_at self.old id.peer 0) (lent_as self.old id))) }
+        ensures number { IfOk result (λ r. Some r.0.number ≡ option_map (λ i. i.first) (lent_as self.old id)) }
+        ensures last { IfOk result (λ r. Some r.1 ≡ option_map is_single (lent_as self.old id)) }
+        ensures book { OnOk result (self.new ≡ with_taken self.old (slot_of id) (Some id.serial)) }
         ensures stays { OnErr result (self.new ≡ self.old) }
     {
-        if shelves::lent_as(&self.shelves, id).is_none() {
-            return Err(BufInvalid);
+        let slot = Slot {
+            peer: id.peer,
+            buffer: id.buffer,
+        };
+        match shelves::take(&mut self.shelves, slot, Some(id.serial)) {
+            None => Err(BufInvalid),
+            Some((held, last)) => Ok((held.into_buffer(), last)),
         }
-        let held = shelves::take(&mut self.shelves, shelves::slot_of(id)).unwrap();
-        Ok(held.into_buffer())
     }
 
-    /// Takes a buffer out of its queue. It is held no more.
-    pub fn withdraw(&mut self, slot: Slot) -> Buffer
-        requires { IsQueued self.old slot }
-        ensures buffer { Some result ≡ option_map (λ k. k.buffer) (queued_at self.old slot) }
-        ensures number { result.number ≡ slot.buffer }
-        ensures book { self.new ≡ with_away self.old slot }
+    /// Takes the oldest frame of an item in the queue out. It is held no more. `None` exactly where the slot names no such
+    /// item; nothing changes then.
+    pub fn withdraw_next(&mut self, slot: Slot) -> Option<Buffer>
+        ensures none { IsNone result ↔ IsNone (queued_at self.old slot) }
+        ensures buffer { result ≡ option_map (λ k. k.buffer) (option_and_then (frame_at self.old slot.peer 0) (queued_at self.old slot)) }
+        ensures number { option_map (λ b. b.number) result ≡ option_map (λ i. i.first) (queued_at self.old slot) }
+        ensures book { IsSome result → self.new ≡ with_taken self.old slot None }
+        ensures stays { IsNone result → self.new ≡ self.old }
     {
-        let held = shelves::take(&mut self.shelves, slot).unwrap();
-        held.into_buffer()
+        match shelves::take(&mut self.shelves, slot, None) {
+            None => None,
+            Some((held, _)) => Some(held.into_buffer()),
+        }
     }
 
-    /// Returns the content of a buffer that is in a queue.
+    /// Counts the frames of an item that is in a queue.
+    pub fn pieces(&self, slot: Slot) -> u32
+        requires { IsQueued self.now slot }
+        ensures { Some result ≡ option_map count_of (queued_at self.now slot) }
+    {
+        shelves::frames(&self.shelves, slot, None).unwrap()
+    }
+
+    /// Returns the content of the n-th frame of an item that is in a queue, counted from 0.
+    pub fn piece(&self, slot: Slot, n: u32) -> &[u8]
+        requires queued { IsQueued self.now slot }
+        requires below { IfSome (queued_at self.now slot) (λ i. n < count_of i) }
+        ensures { Some result.now ≡ option_map content (option_and_then (frame_at self.now slot.peer n) (queued_at self.now slot)) }
+    {
+        shelves::frame(&self.shelves, slot, None, n)
+            .unwrap()
+            .content()
+    }
+
+    /// Returns the content of the first frame of an item that is in a queue.
     pub fn bytes(&self, slot: Slot) -> &[u8]
         requires { IsQueued self.now slot }
-        ensures { Some result.now ≡ option_map content (queued_at self.now slot) }
+        ensures { Some result.now ≡ option_map content (option_and_then (frame_at self.now slot.peer 0) (queued_at self.now slot)) }
     {
-        shelves::held_at(&self.shelves, slot).unwrap().content()
+        self.piece(slot, 0)
     }
 
-    /// Returns the content of a lent buffer.
+    /// Counts the frames of a lent item.
     ///
     /// # Errors
     ///
-    /// `BufInvalid` exactly where no lent buffer has the id.
-    pub fn lent_bytes(&self, id: PacketId) -> Result<&[u8], BufInvalid>
+    /// `BufInvalid` exactly where no lent item has the id.
+    pub fn lent_pieces(&self, id: PacketId) -> Result<u32, BufInvalid>
         ensures refused { IsErr result ↔ IsNone (lent_as self.now id) }
-        ensures content { IfOk result (λ bytes. Some bytes.now ≡ option_map content (lent_as self.now id)) }
+        ensures count { IfOk result (λ n. Some n ≡ option_map count_of (lent_as self.now id)) }
     {
-        let held = shelves::lent_as(&self.shelves, id).ok_or(BufInvalid)?;
+        let slot = Slot {
+            peer: id.peer,
+            buffer: id.buffer,
+        };
+        shelves::frames(&self.shelves, slot, Some(id.serial)).ok_or(BufInvalid)
+    }
+
+    /// Returns the content of the n-th frame of a lent item, counted from 0.
+    ///
+    /// # Errors
+    ///
+    /// `BufInvalid` exactly where no lent item has the id.
+    pub fn lent_piece(&self, id: PacketId, n: u32) -> Result<&[u8], BufInvalid>
+        requires { IfSome (lent_as self.now id) (λ i. n < count_of i) }
+        ensures refused { IsErr result ↔ IsNone (lent_as self.now id) }
+        ensures content { IfOk result (λ bytes. Some bytes.now ≡ option_map content (option_and_then (frame_at self.now id.peer n) (lent_as self.now id))) }
+    {
+        let slot = Slot {
+            peer: id.peer,
+            buffer: id.buffer,
+        };
+        let held = shelves::frame(&self.shelves, slot, Some(id.serial), n).ok_or(BufInvalid)?;
         Ok(held.content())
     }
 
-    /// Counts the buffers of a peer that are in queues, and those that are lent. There are none of a peer that the book does
+    /// Returns the content of the first frame of a lent item.
+    ///
+    /// # Errors
+    ///
+    /// `BufInvalid` exactly where no lent item has the id.
+    pub fn lent_bytes(&self, id: PacketId) -> Result<&[u8], BufInvalid>
+        ensures refused { IsErr result ↔ IsNone (lent_as self.now id) }
+        ensures content { IfOk result (λ bytes. Some bytes.now ≡ option_map content (option_and_then (frame_at self.now id.peer 0) (lent_as self.now id))) }
+    {
+        self.lent_piece(id, 0)
+    }
+
+    /// Counts the frames of a peer that are in queues, and those that are lent. There are none of a peer that the book does
     /// not know.
     pub fn places(&self, peer: u8) -> Places
         ensures queue { result.queue ≡ queued_from self.now peer }
         ensures lent { result.lent ≡ lent_from self.now peer }
     {
         shelves::count(&self.shelves, peer)
+    }
+
+    /// Shows that each frame of an item is held, and in no other item.
+    pub fn each_held_once(&self)
+        ensures { EachHoldsOnce self.now }
+    {
+        shelves::each_held_once(&self.shelves);
     }
 }

@@ -1,10 +1,11 @@
-//! The buffers that a domain took from its peers and keeps: whether each is in a queue or lent, and where its
-//! content lies.
+//! The buffers that a domain took from its peers and keeps: in which item each is, whether that is in a queue or lent, and
+//! where the buffer's part of the content lies.
 //!
 //! A book takes memory where it is made. No other call takes any.
 #![tactic(auto)]
 
 mod book;
+mod cell;
 mod held;
 mod places;
 mod shelf;

@@ -1,12 +1,14 @@
 //! Shelves of peers that differ: what is held in a slot, and what changes there.
-ghost use Rattle.std.specs.Prelude.{◌≡◌, ◌<◌, ◌==◌, IfOk, IfSome, IsSome, Some, None, length, map, position, option_copied, option_map};
-ghost use Rattle.buffer_book.specs.Book.{empty_shelf, slot_of};
-ghost use Rattle.buffer_book.specs.Shelves.{place_in, kept_in, lent_in, with_place_in, PeersDiffer, lent_under, counted_in, stands_in_queue, is_lent};
+ghost use Rattle.std.specs.Prelude.{◌≡◌, ◌<◌, ◌==◌, ◌↔◌, IfOk, IfSome, IsSome, IsNone, Some, None, length, map, position, option_copied, option_map, option_and_then};
+ghost use Rattle.std.specs.List.{AllByRecursion};
+ghost use Rattle.mc_base.specs.declared.request.Slot.{Slot};
+ghost use Rattle.buffer_book.specs.Book.{empty_shelf, enqueued, joined, lent_on, taken, is_single, count_of, item_at, queued_at, queued_from, lent_from, HoldsOnce};
+ghost use Rattle.buffer_book.specs.Shelves.{shelved, place_in, item_in, frame_in, with_shelf_in, PeersDiffer};
 
 use crate::held::HeldBuffer;
 use crate::places::Places;
 use crate::shelf::PeerShelf;
-use mc_base::{NoMemory, PacketId, Slot};
+use mc_base::{NoMemory, Slot};
 use std::alloc::Global;
 
 /// A shelf for each peer, on which nothing is held.
@@ -23,16 +25,6 @@ pub fn empty(alloc: Global, sizes: &[(u8, u32)]) -> Result<Vec<PeerShelf>, NoMem
     Ok(shelves)
 }
 
-/// The slot of a packet.
-pub fn slot_of(id: PacketId) -> Slot
-    ensures { result ≡ slot_of id }
-{
-    Slot {
-        peer: id.peer,
-        buffer: id.buffer,
-    }
-}
-
 /// The place of a peer's shelf.
 pub fn place_of(shelves: &[PeerShelf], peer: u8) -> Option<usize>
     ensures place { result ≡ position (λ s. s.peer == peer) shelves.now }
@@ -41,30 +33,28 @@ pub fn place_of(shelves: &[PeerShelf], peer: u8) -> Option<usize>
     shelves.iter().position(|s| s.is_of(peer))
 }
 
-/// What is held in a slot.
-pub fn held_at(shelves: &[PeerShelf], slot: Slot) -> Option<&HeldBuffer>
-    ensures { option_copied result ≡ kept_in shelves.now slot }
+/// Counts the frames of the item that a slot names, where it is in this state.
+pub fn frames(shelves: &[PeerShelf], slot: Slot, lent: Option<u64>) -> Option<u32>
+    ensures { result ≡ option_map count_of (item_in shelves.now slot lent) }
 {
     let at = place_of(shelves, slot.peer)?;
-    shelves[at].get(slot.buffer)
+    shelves[at].frames(slot.buffer, lent)
 }
 
-/// What is lent under an id.
-pub fn lent_as(shelves: &[PeerShelf], id: PacketId) -> Option<&HeldBuffer>
-    ensures { option_copied result ≡ lent_in shelves.now id }
+/// The n-th frame of the item that a slot names, where it is in this state.
+pub fn frame(shelves: &[PeerShelf], slot: Slot, lent: Option<u64>, n: u32) -> Option<&HeldBuffer>
+    requires { IfSome (item_in shelves.now slot lent) (λ i. n < count_of i) }
+    ensures none { IsNone result ↔ IsNone (item_in shelves.now slot lent) }
+    ensures frame { option_copied result ≡ option_and_then (frame_in shelves.now slot n) (item_in shelves.now slot lent) }
 {
-    let held = held_at(shelves, slot_of(id))?;
-    if held.is_lent_as(id.serial) {
-        Some(held)
-    } else {
-        None
-    }
+    let at = place_of(shelves, slot.peer)?;
+    shelves[at].frame(slot.buffer, lent, n)
 }
 
-/// Counts the buffers of a peer that are in queues, and those that are lent.
+/// Counts the frames of a peer that are in queues, and those that are lent.
 pub fn count(shelves: &[PeerShelf], peer: u8) -> Places
-    ensures queue { result.queue ≡ counted_in stands_in_queue shelves.now peer }
-    ensures lent { result.lent ≡ counted_in is_lent shelves.now peer }
+    ensures queue { result.queue ≡ queued_from (shelved shelves.now) peer }
+    ensures lent { result.lent ≡ lent_from (shelved shelves.now) peer }
 {
     match place_of(shelves, peer) {
         Some(at) => shelves[at].count(),
@@ -72,37 +62,62 @@ pub fn count(shelves: &[PeerShelf], peer: u8) -> Places
     }
 }
 
-/// Puts a buffer into its slot.
+/// Shows that each frame of an item is held, and in no other item.
+pub fn each_held_once(shelves: &[PeerShelf])
+    ensures { AllByRecursion HoldsOnce shelves.now }
+{
+    for shelf in shelves {
+        shelf.each_held_once();
+    }
+}
+
+/// Queues an item of one frame. A lent item of that name stands aside.
 pub fn put(shelves: &mut [PeerShelf], slot: Slot, held: HeldBuffer)
     requires differ { PeersDiffer shelves.old }
-    requires there { IsSome (place_in shelves.old slot) }
+    requires away { place_in shelves.old slot ≡ Some None }
+    requires unqueued { IsNone (queued_at (shelved shelves.old) slot) }
     requires number { held.buffer.number ≡ slot.buffer }
-    ensures { shelves.new ≡ with_place_in shelves.old slot (Some held) }
+    ensures { shelves.new ≡ with_shelf_in shelves.old slot.peer (enqueued slot.buffer held) }
 {
     if let Some(at) = place_of(shelves, slot.peer) {
         shelves[at].put(slot.buffer, held);
     }
 }
 
-/// Lends what is held in a slot.
+/// Appends a frame to an item.
+pub fn join(shelves: &mut [PeerShelf], slot: Slot, number: u16, held: HeldBuffer)
+    requires differ { PeersDiffer shelves.old }
+    requires item { IsSome (item_at (shelved shelves.old) slot) }
+    requires away { place_in shelves.old (record slot { buffer = number }) ≡ Some None }
+    requires number { held.buffer.number ≡ number }
+    ensures { shelves.new ≡ with_shelf_in shelves.old slot.peer (joined slot.buffer number held) }
+{
+    if let Some(at) = place_of(shelves, slot.peer) {
+        shelves[at].join(slot.buffer, number, held);
+    }
+}
+
+/// Lends the item that a slot names.
 pub fn lend(shelves: &mut [PeerShelf], slot: Slot, serial: u64)
     requires differ { PeersDiffer shelves.old }
-    requires held { IsSome (kept_in shelves.old slot) }
-    ensures { Some shelves.new ≡ option_map (λ k. with_place_in shelves.old slot (Some (lent_under serial k))) (kept_in shelves.old slot) }
+    requires item { IsSome (item_at (shelved shelves.old) slot) }
+    ensures { shelves.new ≡ with_shelf_in shelves.old slot.peer (lent_on slot.buffer serial) }
 {
     if let Some(at) = place_of(shelves, slot.peer) {
         shelves[at].lend(slot.buffer, serial);
     }
 }
 
-/// Takes what is held in a slot.
-pub fn take(shelves: &mut [PeerShelf], slot: Slot) -> Option<HeldBuffer>
-    requires differ { PeersDiffer shelves.old }
-    requires there { IsSome (place_in shelves.old slot) }
-    ensures value { result ≡ kept_in shelves.old slot }
-    ensures number { IfSome result (λ k. k.buffer.number ≡ slot.buffer) }
-    ensures shelves { shelves.new ≡ with_place_in shelves.old slot None }
+/// Takes the oldest frame of the item that a slot names, where it is in this state, and tells whether it was the last.
+pub fn take(shelves: &mut [PeerShelf], slot: Slot, lent: Option<u64>) -> Option<(HeldBuffer, bool)>
+    requires { PeersDiffer shelves.old }
+    ensures none { IsNone result ↔ IsNone (item_in shelves.old slot lent) }
+    ensures frame { option_map (λ r. r.0) result ≡ option_and_then (frame_in shelves.old slot 0) (item_in shelves.old slot lent) }
+    ensures last { option_map (λ r. r.1) result ≡ option_map is_single (item_in shelves.old slot lent) }
+    ensures number { option_map (λ r. r.0.buffer.number) result ≡ option_map (λ i. i.first) (item_in shelves.old slot lent) }
+    ensures shelves { IsSome result → shelves.new ≡ with_shelf_in shelves.old slot.peer (taken slot.buffer lent) }
+    ensures stays { IsNone result → shelves.new ≡ shelves.old }
 {
     let at = place_of(shelves, slot.peer)?;
-    shelves[at].take(slot.buffer)
+    shelves[at].take(slot.buffer, lent)
 }

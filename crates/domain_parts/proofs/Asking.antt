@@ -66,7 +66,7 @@ module _ {L : Type 0} (v : L → LaneSeen) (b : Book) (r : Records) (q : Request
       record {
         peers = sound.peers;
         places = All-from (λ p. AreInPlaces p.number r q b (out_at v p)) (λ p. AreInPlaces p.number r q' b (out_at v p)) (λ p places. asked-places p.number r q b (out_at v p) id a o none places) ps sound.places;
-        total = ap (λ (ss : List Slot). length ss + length r.lent) (same-slots r q id a o none) ∙ sound.total;
+        shelves = sound.shelves;
         room = sound.room;
         receives = last-receives q id a o sound.receives is fresh few;
         tied = sound.tied;

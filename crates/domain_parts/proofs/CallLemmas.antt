@@ -19,20 +19,18 @@ use Rattle.board_model.specs.Unnamed.{no_names, unnamed, unnamed_item}
 use Rattle.board_model.proofs.RenamedGiven.{returned-renamed}
 use Rattle.board_model.proofs.RenamedLabels.{given-renamed}
 use Rattle.board_model.proofs.RenamedCalls.{answer-renamed, puts-renamed}
-use Rattle.domain_parts.specs.AllMoved.{AllMoved, call_moves, frames_to, giving, moves_at, numbers_of}
+use Rattle.domain_parts.specs.AllMoved.{AllMoved, call_moves, moves_at, numbers_of}
 use Rattle.domain_parts.specs.Calls.{Calls, Does, IsFresh, success_releases}
-use Rattle.domain_parts.specs.InBook.{item_at, numbered_at}
-use Rattle.domain_parts.specs.CallSteps.{Acted, Acts, Rests, Succeeds, buffers_of, call_steps, slot_moves}
+use Rattle.domain_parts.specs.CallSteps.{Acted, Acts, Rests, Succeeds, call_steps}
 use Rattle.domain_parts.specs.DomainView.{DomainView}
 use Rattle.domain_parts.specs.LaneMoves.{LaneMove}
 use Rattle.domain_parts.specs.Parts.{Holding, Parts, plain, shown, state_of}
 use Rattle.domain_parts.specs.Steps.{all_moves}
-use Rattle.domain_parts.specs.VisitMoves.{putting}
 use Rattle.domain_parts.specs.Turned.{MakesTurn}
 use Rattle.domain_parts.proofs.Calling.{puts-done, puts-nothing}
 use Rattle.domain_parts.proofs.Ending.{ended-done, ended-refused, ids_in}
 use Rattle.domain_parts.proofs.GivingLemmas.{numbers-in}
-use Rattle.domain_parts.proofs.Unnaming.{effect-unnamed, ended-unnamed, names-are, released-unnamed}
+use Rattle.domain_parts.proofs.Unnaming.{effect-unnamed, ended-unnamed, released-unnamed}
 
 map-same : {A B : Type 0} (f g : A → B) → ((x : A) → f x ≡ g x) → (xs : List A) → map f xs ≡ map g xs
 map-same f g is [] = refl
@@ -49,19 +47,14 @@ module _ {L : Type 0} (M : L → List LaneMove → L → Type 0) (node : ℕ) (c
   abbrev u : state.DomainState
   u = unnamed s
 
-  -- what is given back, by its names
-  names-back : (slots : List Slot) → map (numbered_at p.book) slots ≡ returned s node call → (peer : ℕ) → buffers_of peer slots ≡ frames_from peer (returned s node call)
-  names-back slots is peer = names-are p.book peer slots ∙ ap (frames_from peer) is
-
   -- moves at all peers, in the words of the state
-  moved-in : (frames : List (ℕ × List ℕ)) → frames ≡ puts s node call → (slots : List Slot) → map (numbered_at p.book) slots ≡ returned s node call → (f : ℕ → List LaneMove) → ((n : ℕ) → f n ≡ slot_moves frames slots n) → (ends : List L) → AllMoved M old.ends (map f (numbers_of p.peers)) ends
+  moved-in : (frames : List (ℕ × List ℕ)) → frames ≡ puts s node call → (items : List state.Item) → items ≡ returned s node call → (f : ℕ → List LaneMove) → ((n : ℕ) → f n ≡ moves_at frames items n) → (ends : List L) → AllMoved M old.ends (map f (numbers_of p.peers)) ends
       → AllMoved M old.ends (call_moves (puts u node call) (returned s node call) (map (λ (x : state.Peer). x.number) u.peers)) ends
-  moved-in frames is slots back f same ends moved =
-      let items = returned s node call in
-      let named : (n : ℕ) → slot_moves frames slots n ≡ moves_at frames items n = λ n. ap (λ (ns : List ℕ). putting (frames_to n frames) ++ giving ns) (names-back slots back n) in
-      subst (λ (fs : List (ℕ × List ℕ)). AllMoved M old.ends (call_moves fs items (map (λ (x : state.Peer). x.number) s.peers)) ends) (is ∙ sym (puts-renamed no_names s node call))
+  moved-in frames is items back f same ends moved =
+      subst (λ (is : List state.Item). AllMoved M old.ends (call_moves (puts u node call) is (map (λ (x : state.Peer). x.number) u.peers)) ends) back
+      (subst (λ (fs : List (ℕ × List ℕ)). AllMoved M old.ends (call_moves fs items (map (λ (x : state.Peer). x.number) s.peers)) ends) (is ∙ sym (puts-renamed no_names s node call))
       (subst (λ (ns : List ℕ). AllMoved M old.ends (call_moves frames items ns) ends) (sym (numbers-in plain p.table p.peers))
-      (subst (λ ms. AllMoved M old.ends ms ends) (map-same f (moves_at frames items) (λ n. same n ∙ named n) (numbers_of p.peers)) moved))
+      (subst (λ ms. AllMoved M old.ends ms ends) (map-same f (moves_at frames items) same (numbers_of p.peers)) moved)))
 
   fresh-in : (o : Option RequestId) → IfSome o (IsFresh (ids_in p.requests) s) → IfSome o (IsFresh (ids_in p.requests) u)
   fresh-in None fresh = tt
@@ -89,12 +82,12 @@ module _ {L : Type 0} (M : L → List LaneMove → L → Type 0) (node : ℕ) (c
   succeeded e answer-is done =
       let m = done.means in
       let after : state_of new.parts ≡ effect s node call = ap state_of done.did.parts ∙ m.state ∙ sym (ap (λ (o : Option Refusal). changed_all s (unless_refused o [] (success_changes s node call))) e) in
-      let back : map (numbered_at p.book) m.slots ≡ returned s node call = m.returned ∙ sym (ap (λ (o : Option Refusal). unless_refused o [] (success_returned s node call)) e) in
+      let back : success_returned s node call ≡ returned s node call = sym (ap (λ (o : Option Refusal). unless_refused o [] (success_returned s node call)) e) in
       record {
         answer = answer-is ∙ sym (answer-renamed no_names s node call);
         state = ap unnamed after ∙ effect-unnamed s node call;
         numbered = after;
-        moved = moved-in (success_puts s node call) (sym (puts-done s node call e)) m.slots back (all_moves (call_steps p node call given)) m.moves new.ends done.did.moved;
+        moved = moved-in (success_puts s node call) (sym (puts-done s node call e)) (success_returned s node call) back (all_moves (call_steps p node call given)) m.moves new.ends done.did.moved;
         ids = ap (λ (x : Parts). ids_in x.requests) done.did.parts ∙ m.ids ∙ ap (λ (o : Option ℕ). without o (ids_in p.requests) ++ option_to_list given) (sym (ended-unnamed s node call ∙ ended-done s node call e));
         fresh = fresh-in given m.fresh;
         lent = m.lent;
@@ -140,8 +133,6 @@ turn-acts M h rests = record {
     did = record { parts = refl; moved = rests };
     means = record {
       state = refl;
-      slots = [];
-      returned = refl;
       moves = λ n. refl;
       ids = sym (append-nil (ids_in h.parts.requests));
       fresh = tt;

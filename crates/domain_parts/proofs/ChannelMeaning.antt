@@ -26,7 +26,7 @@ use Rattle.board_model.specs.DomainCall.{close_at, connect_from, open_at}
 use Rattle.board_model.specs.Lists as lists
 use Rattle.board_model.specs.Lists.{changed_at}
 use Rattle.board_model.specs.State as state
-use Rattle.board_model.specs.State.{ChannelEnd, DomainState, address_at, channel_in, endpoint_of, has_address_of, is_at, live_at, place_at}
+use Rattle.board_model.specs.State.{ChannelEnd, DomainState, address_at, channel_in, endpoint_of, frames_from, has_address_of, is_at, live_at, place_at}
 use Rattle.buffer_book.specs.Book.{Book}
 use Rattle.lane_end.specs.SendMoves.{Sent}
 use Rattle.message_queue.specs.Queue.{Waiting}
@@ -40,11 +40,11 @@ use Rattle.domain_parts.specs.LaneSeen.{LaneSeen}
 use Rattle.domain_parts.specs.declared.endpoints.Endpoint.{Endpoint}
 use Rattle.domain_parts.specs.declared.peer.Peer.{Peer}
 use Rattle.domain_parts.specs.declared.requests.Waiters.TheVariants as waiters
-use Rattle.domain_parts.specs.AllMoved.{giving}
+use Rattle.domain_parts.specs.AllMoved.{giving, moves_at}
 use Rattle.domain_parts.specs.Calls as calls
 use Rattle.domain_parts.specs.Calls.{IsFresh}
-use Rattle.domain_parts.specs.CallSteps.{buffers_of, slot_moves, Empties, Means, as_channel, call_steps, drops, emptying, if_some, putting_all}
-use Rattle.domain_parts.specs.InBook.{asked_in, endpoint_in, endpoints_in, item_in, outcome_in}
+use Rattle.domain_parts.specs.CallSteps.{Empties, Means, as_channel, call_steps, drops, emptying, if_some, putting_all}
+use Rattle.domain_parts.specs.InBook.{asked_in, endpoint_in, endpoints_in, item_in, numbered_at, outcome_in}
 use Rattle.domain_parts.specs.LaneMoves.{LaneMove, sender}
 use Rattle.domain_parts.specs.Parts.{Holding, Parts, Sound, plain, state_of}
 use Rattle.domain_parts.specs.Peers.{state_in}
@@ -93,13 +93,13 @@ empty-set b o i [] none = refl
 empty-set b o zero (e ∷ es) none = ap (λ (ws : List Waiting). record (endpoint_in b e) { queue = map (item_in b) ws; channel = o } ∷ endpoints_in b es) none
 empty-set b o (suc i) (e ∷ es) none = ap (λ (xs : List state.Endpoint). endpoint_in b e ∷ xs) (empty-set b o i es none)
 
-emptied-is : (p : Parts) → Sound p → (i : ℕ) (c : Option Channel) → state_of (done_all (drops i (slots_at p.records i) ++ channel_set i c ∷ []) p) ≡ record (state_of p) { endpoints = changed_at (without_queue (option_map end_of c)) i (state_of p).endpoints }
+emptied-is : (p : Parts) → Sound p → (i : ℕ) (c : Option Channel) → state_of (done_all (drops p.book i (slots_at p.records i) ++ channel_set i c ∷ []) p) ≡ record (state_of p) { endpoints = changed_at (without_queue (option_map end_of c)) i (state_of p).endpoints }
 emptied-is p sound i c =
     let ss = slots_at p.records i in
-    let p' = done_all (drops i ss) p in
+    let p' = done_all (drops p.book i ss) p in
     let left = all-left p sound i ss refl in
     let o = option_map end_of c in
-    ap state_of (done-append (drops i ss) (channel_set i c ∷ []) p)
+    ap state_of (done-append (drops p.book i ss) (channel_set i c ∷ []) p)
     ∙ ap (λ (ps : List (Peer LaneSeen)). state_of (record (done (channel_set i c) p') { peers = ps })) (quiet-peers p'.peers)
     ∙ ap (λ (es : List state.Endpoint). record (state_of p') { endpoints = es }) (endpoints-set p'.book c p'.records.endpoints i ∙ empty-set p'.book o i p'.records.endpoints (no-slots (waiting_in (slice_get p'.records.endpoints i)) left.none) ∙ left.dropped (without_queue o) (λ e. refl))
     ∙ ap (λ (s : DomainState). record s { endpoints = changed_at (without_queue o) i (state_of p).endpoints }) left.others
@@ -110,20 +110,20 @@ put-there : (d : ℕ) (f : List ℕ) (b : Bool) → cond b (sender (Sent f) ∷ 
 put-there d f true = refl
 put-there d f false = refl
 
--- one frame is put, and buffers are given back
-put-moves : (d : ℕ) (f : List ℕ) (slots : List Slot) (n : ℕ) → step_moves (frame_put d f) n ++ giving (buffers_of n slots) ≡ slot_moves ((d, f) ∷ []) slots n
-put-moves d f slots n = ap (λ (ms : List LaneMove). ms ++ giving (buffers_of n slots)) (put-there d f (d == n))
+-- one frame is put, and the buffers of items are given back
+put-moves : (d : ℕ) (f : List ℕ) (items : List state.Item) (n : ℕ) → step_moves (frame_put d f) n ++ giving (frames_from n items) ≡ moves_at ((d, f) ∷ []) items n
+put-moves d f items n = ap (λ (ms : List LaneMove). ms ++ giving (frames_from n items)) (put-there d f (d == n))
 
 -- ---- steps that were made
 
 module _ {L : Type 0} (M : L → List LaneMove → L → Type 0) (at : Local) (i : ℕ) where
   pub emptied-place : (side : Side) (old new : Holding L) → Empties M side i at old new → place_at (state_of old.parts) at ≡ Some i → place_at (state_of new.parts) at ≡ Some i
   emptied-place Sender old new same there = ap (λ (h : Holding L). place_at (state_of h.parts) at) same ∙ there
-  emptied-place Receiver old new did there = ap (λ (p : Parts). place_at (state_of p) at) did.parts ∙ drops-place at i (slots_at old.parts.records i) (done (receives_ended at ChanClosed) old.parts) ∙ there
+  emptied-place Receiver old new did there = ap (λ (p : Parts). place_at (state_of p) at) did.parts ∙ drops-place old.parts.book at i (slots_at old.parts.records i) (done (receives_ended at ChanClosed) old.parts) ∙ there
 
-  pub emptied-did : ((a b c : L) (xs ys : List LaneMove) → M a xs b → M b ys c → M a (xs ++ ys) c) → (side : Side) (xs : List Step) (a b c : Holding L) → Did M xs a b → Empties M side i at b c → Did M (xs ++ emptying side i at (slots_at b.parts.records i)) a c
+  pub emptied-did : ((a b c : L) (xs ys : List LaneMove) → M a xs b → M b ys c → M a (xs ++ ys) c) → (side : Side) (xs : List Step) (a b c : Holding L) → Did M xs a b → Empties M side i at b c → Did M (xs ++ emptying b.parts.book side i at (slots_at b.parts.records i)) a c
   emptied-did both Sender xs a b c first same = subst (λ (h : Holding L). Did M (xs ++ []) a h) (sym same) (subst (λ (cs : List Step). Did M cs a b) (sym (append-nil xs)) first)
-  emptied-did both Receiver xs a b c first then = did-then M both xs (emptying Receiver i at (slots_at b.parts.records i)) a b c first then
+  emptied-did both Receiver xs a b c first then = did-then M both xs (emptying b.parts.book Receiver i at (slots_at b.parts.records i)) a b c first then
 
 pub close-answer : (p : Parts) (at : Local) (i : ℕ) → place_at (state_of p) at ≡ Some i → (side : Side) → calls.closed side (Ok (length (slots_at p.records i))) ≡ success (state_of p) at.node (close_at at.port side)
 close-answer p at i there Sender = refl
@@ -192,8 +192,6 @@ module _ (p : Parts) (sound : Sound p) (at : Local) (i : ℕ) (there : place_at 
     pub connect-means : Means p at.node (connect_from at.port to kind) (Some id)
     connect-means = record {
       state = ap (λ (cs : List Step). state_of (done_all cs p)) connect-steps ∙ connect-state;
-      slots = [];
-      returned = refl;
       moves = λ n. ap (λ (cs : List Step). all_moves cs n) connect-steps ∙ put-moves to.domain connect_frame [] n;
       ids = ap (λ (cs : List Step). ids_in (done_all cs p).requests) connect-steps ∙ last-ids p.requests id (ask.Connect number) None;
       fresh = fresh;
@@ -245,9 +243,7 @@ module _ (p : Parts) (sound : Sound p) (at : Local) (i : ℕ) (there : place_at 
       pub open-means : Means p at.node (open_at at.port side kind) None
       open-means = record {
         state = ap (λ (cs : List Step). state_of (done_all cs p)) open-steps ∙ open-state;
-        slots = [];
-        returned = refl;
-        moves = λ n. ap (λ (cs : List Step). all_moves cs n) open-steps ∙ put-moves c.peer open_frame [] n ∙ ap (λ (fs : List (ℕ × List ℕ)). slot_moves fs [] n) (sym open-puts);
+        moves = λ n. ap (λ (cs : List Step). all_moves cs n) open-steps ∙ put-moves c.peer open_frame [] n ∙ ap (λ (fs : List (ℕ × List ℕ)). moves_at fs [] n) (sym open-puts);
         ids = ap (λ (cs : List Step). ids_in (done_all cs p).requests) open-steps ∙ sym (append-nil (ids_in p.requests));
         fresh = tt;
         lent = None;
@@ -264,7 +260,7 @@ module _ (p : Parts) (sound : Sound p) (at : Local) (i : ℕ) (there : place_at 
     close_end = option_map as_channel (closed_end c)
 
     abbrev close_list : Side → List Step
-    close_list side = frame_put c.peer (close_frame side) ∷ (emptying side i at (slots_at p.records i) ++ channel_set i close_end ∷ [])
+    close_list side = frame_put c.peer (close_frame side) ∷ (emptying p.book side i at (slots_at p.records i) ++ channel_set i close_end ∷ [])
 
     pub close-puts : (side : Side) → success_puts s at.node (close_at at.port side) ≡ (c.peer, close_frame side) ∷ []
     close-puts side = ap (flat_map puts_of) (posts-are s at a c address has (closing_letter side)) ∙ post-single (post c.peer a c.peer_address (closing_letter side c.number)) (closing-single side c.number)
@@ -272,9 +268,9 @@ module _ (p : Parts) (sound : Sound p) (at : Local) (i : ℕ) (there : place_at 
     pub close-steps : (side : Side) → call_steps p at.node (close_at at.port side) None ≡ close_list side
     close-steps side =
         let puts = success_puts s at.node (close_at at.port side) in
-        ap (λ (o : Option ℕ). if_some o (λ k. if_some (channel_at s at) (λ d. putting_all puts ++ (emptying side k at (slots_at p.records k) ++ channel_set k (option_map as_channel (closed_end d)) ∷ [])))) there
-        ∙ ap (λ (o : Option ChannelEnd). if_some o (λ d. putting_all puts ++ (emptying side i at (slots_at p.records i) ++ channel_set i (option_map as_channel (closed_end d)) ∷ []))) has
-        ∙ ap (λ (fs : List (ℕ × List ℕ)). putting_all fs ++ (emptying side i at (slots_at p.records i) ++ channel_set i close_end ∷ [])) (close-puts side)
+        ap (λ (o : Option ℕ). if_some o (λ k. if_some (channel_at s at) (λ d. putting_all puts ++ (emptying p.book side k at (slots_at p.records k) ++ channel_set k (option_map as_channel (closed_end d)) ∷ [])))) there
+        ∙ ap (λ (o : Option ChannelEnd). if_some o (λ d. putting_all puts ++ (emptying p.book side i at (slots_at p.records i) ++ channel_set i (option_map as_channel (closed_end d)) ∷ []))) has
+        ∙ ap (λ (fs : List (ℕ × List ℕ)). putting_all fs ++ (emptying p.book side i at (slots_at p.records i) ++ channel_set i close_end ∷ [])) (close-puts side)
 
     send-state : state_of (done_all (close_list Sender) p) ≡ changed_all s (success_changes s at.node (close_at at.port Sender))
     send-state =
@@ -305,30 +301,28 @@ module _ (p : Parts) (sound : Sound p) (at : Local) (i : ℕ) (there : place_at 
         ∙ ap (λ (u : DomainState). changed_all u (change.waiting_ended a0 ChanClosed ∷ change.queue_dropped a0 (closed_end c) ∷ [])) (used-is p sound c.peer (close_frame Receiver) j peer)
         ∙ ap (changed_all s) (sym (end-changes (closing Receiver)))
 
-    recv-moves : (n : ℕ) → all_moves (close_list Receiver) n ≡ slot_moves ((c.peer, close_frame Receiver) ∷ []) (slots_at p.records i) n
+    recv-moves : (n : ℕ) → all_moves (close_list Receiver) n ≡ moves_at ((c.peer, close_frame Receiver) ∷ []) (map (numbered_at p.book) (slots_at p.records i)) n
     recv-moves n =
         let ss = slots_at p.records i in
-        ap (λ (ms : List LaneMove). step_moves (frame_put c.peer (close_frame Receiver)) n ++ ms) (moves-cons (receives_ended at ChanClosed) (drops i ss) (channel_set i close_end) n ∙ drops-moves i ss (channel_set i close_end) n refl)
-        ∙ put-moves c.peer (close_frame Receiver) ss n
+        ap (λ (ms : List LaneMove). step_moves (frame_put c.peer (close_frame Receiver)) n ++ ms) (moves-cons (receives_ended at ChanClosed) (drops p.book i ss) (channel_set i close_end) n ∙ drops-moves p.book i ss (channel_set i close_end) n refl)
+        ∙ put-moves c.peer (close_frame Receiver) (map (numbered_at p.book) ss) n
 
     -- what is dropped leaves the rest
     abbrev p3 : Parts
-    p3 = done_all (drops i (slots_at p.records i)) p2
+    p3 = done_all (drops p.book i (slots_at p.records i)) p2
 
-    left : IsLeft p2 p3 i (slots_at p.records i)
+    left : IsLeft p2 p3 i
     left = all-left p2 sound2 i (slots_at p.records i) refl
 
     last-is : done (channel_set i close_end) p3 ≡ done_all (close_list Receiver) p
-    last-is = sym (done-append (drops i (slots_at p.records i)) (channel_set i close_end ∷ []) p2)
+    last-is = sym (done-append (drops p.book i (slots_at p.records i)) (channel_set i close_end ∷ []) p2)
 
     pub close-means : (side : Side) → Means p at.node (close_at at.port side) None
     close-means Sender =
         let steps = close-steps Sender in
         record {
           state = ap (λ (cs : List Step). state_of (done_all cs p)) steps ∙ send-state;
-          slots = [];
-          returned = refl;
-          moves = λ n. ap (λ (cs : List Step). all_moves cs n) steps ∙ put-moves c.peer (close_frame Sender) [] n ∙ ap (λ (fs : List (ℕ × List ℕ)). slot_moves fs [] n) (sym (close-puts Sender));
+          moves = λ n. ap (λ (cs : List Step). all_moves cs n) steps ∙ put-moves c.peer (close_frame Sender) [] n ∙ ap (λ (fs : List (ℕ × List ℕ)). moves_at fs [] n) (sym (close-puts Sender));
           ids = ap (λ (cs : List Step). ids_in (done_all cs p).requests) steps ∙ sym (append-nil (ids_in p.requests));
           fresh = tt;
           lent = None;
@@ -340,9 +334,10 @@ module _ (p : Parts) (sound : Sound p) (at : Local) (i : ℕ) (there : place_at 
         let ss = slots_at p.records i in
         record {
           state = ap (λ (cs : List Step). state_of (done_all cs p)) steps ∙ recv-state;
-          slots = ss;
-          returned = gone-items plain p.book p.records p.requests p.table p.peers at i sound there ∙ returned-agrees s at.node (close_at at.port Receiver);
-          moves = λ n. ap (λ (cs : List Step). all_moves cs n) steps ∙ recv-moves n ∙ ap (λ (fs : List (ℕ × List ℕ)). slot_moves fs ss n) (sym (close-puts Receiver));
+          moves = λ n.
+              ap (λ (cs : List Step). all_moves cs n) steps ∙ recv-moves n
+              ∙ ap (λ (fs : List (ℕ × List ℕ)). moves_at fs (map (numbered_at p.book) ss) n) (sym (close-puts Receiver))
+              ∙ ap (λ (is : List state.Item). moves_at (success_puts s at.node (close_at at.port Receiver)) is n) (gone-items plain p.book p.records p.requests p.table p.peers at i sound there ∙ returned-agrees s at.node (close_at at.port Receiver));
           ids =
               ap (λ (cs : List Step). ids_in (done_all cs p).requests) steps
               ∙ ap (λ (x : Parts). ids_in x.requests) (sym last-is)

@@ -142,7 +142,7 @@ module _ {L : Type 0} (v : L → LaneSeen) (b : Book) (r : Records) (q : Request
     made-sound r' q' t' er eq et sound = moved-to (λ (x : Records) (y : Requests) (z : Table). AreSound v b x y z ps) (with_record r at) r' made_requests q' (created t at) t' er eq et (record {
       peers = sound.peers;
       places = all-weaken (λ (p : Peer L). AreInPlaces p.number r q b (out_at v p)) (λ (p : Peer L). AreInPlaces p.number (with_record r at) made_requests b (out_at v p)) (λ p places. same-held r (with_record r at) q made_requests b p.number (out_at v p) refl waits-same handed-same places) ps sound.places;
-      total = ap (λ (ss : List Slot). length ss + length r.lent) slots-same ∙ sound.total;
+      shelves = sound.shelves;
       room = sound.room;
       receives = receives-all q who how tt sound.receives;
       tied = tied-created r t (numbers_of ps) at sound.tied;

@@ -1,12 +1,14 @@
 -- What the steps of the calls mean that send and receive items on channels.
-use Rattle.std.proofs.Common.{◌≡◌, ℕ, Bool, true, false, cond, List, [], ◌∷◌, ◌++◌, drop, length, map, Option, Some, None, refl, sym, ap, ◌∙◌, subst, arith}
+use Rattle.std.proofs.Common.{◌≡◌, ℕ, Bool, true, false, cond, List, [], ◌∷◌, ◌++◌, ◌<◌, ◌≤◌, drop, take, length, map, Option, Some, None, refl, sym, ap, ◌∙◌, subst, arith}
 use Rattle.std.specs.Prelude.{Err, Ok, Result, not, option_and_then, option_map, option_to_list, position, slice_get, ◌==◌}
 use Rattle.std.specs.List.{flat_map}
-use Rattle.std.proofs.lemmas.List.{append-nil}
+use Rattle.std.proofs.lemmas.Bool.{ne_eqb}
+use Rattle.std.proofs.lemmas.List.{append-nil, take_all}
 use Rattle.mc_base.specs.Frame.{made}
 use Rattle.byteorder.specs.Endian.{little_number}
 use Rattle.mc_base.specs.Letter.{PlainLetter, bytes_of_bits, spelling}
 use Rattle.mc_base.specs.declared.channel.Bits.{Bits}
+use Rattle.mc_base.specs.declared.channel.Bits.TheVariants as bits
 use Rattle.mc_base.specs.declared.channel.Kind.TheVariants.{Scalar}
 use Rattle.mc_base.specs.declared.name.Local.{Local}
 use Rattle.mc_base.specs.declared.refusal.Refusal.{Refusal}
@@ -27,10 +29,11 @@ use Rattle.board_model.specs.State.{ChannelEnd, DomainState, Item, address_at, l
 use Rattle.message_queue.specs.Queue.{Waiting}
 use Rattle.packet_channel.specs.End.{may}
 use Rattle.scalar_channel.specs.Scalar.{scalar_of}
+use Rattle.domain_parts.specs.AllMoved.{moves_at}
 use Rattle.domain_parts.specs.LaneSeen.{LaneSeen}
 use Rattle.domain_parts.specs.declared.peer.Peer.{Peer}
 use Rattle.domain_parts.specs.Calls.{success_ends, success_releases}
-use Rattle.domain_parts.specs.CallSteps.{slot_moves, Means, call_steps, if_some, oldest_slot, putting_all}
+use Rattle.domain_parts.specs.CallSteps.{Means, call_steps, dropped_at, if_some, oldest_slot, putting_all}
 use Rattle.domain_parts.specs.InBook.{endpoints_in, numbered_at, item_in}
 use Rattle.domain_parts.specs.Parts.{Parts, Sound, plain, state_of}
 use Rattle.domain_parts.specs.Records.{waiting_in}
@@ -63,9 +66,7 @@ module _ (p : Parts) (sound : Sound p) (at : Local) (i : ℕ) (there : place_at 
       let is = steps ∙ ap putting_all puts in
       record {
         state = ap (λ (cs : List Step). state_of (done_all cs p)) is ∙ used-is p sound c.peer frame j peer ∙ ap (changed_all (state_of p)) (sym (changes ∙ end-changes p sound at i there c has a address j peer (λ e d. buffers_used d.peer 1 ∷ [])));
-        slots = [];
-        returned = sym back;
-        moves = λ n. ap (λ (cs : List Step). all_moves cs n) is ∙ one-put c.peer frame (c.peer == n) ∙ ap (λ (fs : List (ℕ × List ℕ)). slot_moves fs [] n) (sym puts);
+        moves = λ n. ap (λ (cs : List Step). all_moves cs n) is ∙ one-put c.peer frame (c.peer == n) ∙ ap (λ (fs : List (ℕ × List ℕ)). moves_at fs [] n) (sym puts) ∙ ap (λ (is : List Item). moves_at (success_puts (state_of p) at.node call) is n) (sym back);
         ids = ap (λ (cs : List Step). ids_in (done_all cs p).requests) is ∙ sym (append-nil (ids_in p.requests)) ∙ ap (λ (o : Option ℕ). lists.without o (ids_in p.requests) ++ []) (sym ends);
         fresh = tt;
         lent = None;
@@ -84,7 +85,7 @@ module _ (p : Parts) (sound : Sound p) (at : Local) (i : ℕ) (there : place_at 
   abbrev the : (e : state.Endpoint) × (live_at (state_of p) at ≡ Some e)
   the = there_at (state_of p) at i there
 
-  taken-state : state_of (done (oldest_dropped i s) p) ≡ changed (state_of p) (oldest_gone the.0.address)
+  taken-state : state_of (done (dropped_at p.book i s) p) ≡ changed (state_of p) (oldest_gone the.0.address)
   taken-state =
       let by = by_address at (state_of p).endpoints the.0 (ends-of plain p.book p.records p.requests p.table p.peers sound).apart the.1 in
       one-dropped p sound i s first
@@ -92,19 +93,17 @@ module _ (p : Parts) (sound : Sound p) (at : Local) (i : ℕ) (there : place_at 
 
   -- it is dropped by the receive of a scalar
   module _ (bits : Bits) where
-    pub scalar-steps : call_steps p at.node (scalar_at at.port bits) None ≡ oldest_dropped i s ∷ []
+    pub scalar-steps : call_steps p at.node (scalar_at at.port bits) None ≡ dropped_at p.book i s ∷ []
     scalar-steps =
-        ap (λ (o : Option ℕ). if_some o (λ k. if_some (oldest_slot p k) (λ x. oldest_dropped k x ∷ []))) there
-        ∙ ap (λ (o : Option Slot). if_some o (λ x. oldest_dropped i x ∷ [])) (sym first)
+        ap (λ (o : Option ℕ). if_some o (λ k. if_some (oldest_slot p k) (λ x. dropped_at p.book k x ∷ []))) there
+        ∙ ap (λ (o : Option Slot). if_some o (λ x. dropped_at p.book i x ∷ [])) (sym first)
 
     pub scalar-means : Means p at.node (scalar_at at.port bits) None
     scalar-means =
         let steps = scalar-steps in
         record {
           state = ap (λ (cs : List Step). state_of (done_all cs p)) steps ∙ taken-state ∙ sym (ap (λ (o : Option state.Endpoint). changed_all (state_of p) (at_live o (λ e. oldest_gone e.address ∷ []))) the.1);
-          slots = s ∷ [];
-          returned = ap (λ (o : Option Item). option_to_list o) (sym oldest-there) ∙ returned-agrees (state_of p) at.node (scalar_at at.port bits);
-          moves = λ n. ap (λ (cs : List Step). all_moves cs n) steps ∙ one-gave s (s.peer == n);
+          moves = λ n. ap (λ (cs : List Step). all_moves cs n) steps ∙ one-gave p.book s n ∙ ap (λ (is : List Item). moves_at [] is n) (ap (λ (o : Option Item). option_to_list o) (sym oldest-there) ∙ returned-agrees (state_of p) at.node (scalar_at at.port bits));
           ids = ap (λ (cs : List Step). ids_in (done_all cs p).requests) steps ∙ sym (append-nil (ids_in p.requests));
           fresh = tt;
           lent = None;
@@ -193,3 +192,30 @@ module _ (s : DomainState) (at : Local) (i : ℕ) (c : ChannelEnd) (there : plac
 
     pub scalar-done : (bs : List ℕ) → Some bs ≡ option_map (λ (i : Item). i.content) (oldest (queue_at s at)) → (length bs == bytes_of_bits bits) ≡ true → refusal s at.node (scalar_at at.port bits) ≡ None
     scalar-done bs is fits = scalar-sized bs is ∙ ap (λ (b : Bool). cond (not b) (Some SclSize) None) fits
+
+-- what is copied of the front of a queue: all of it where it is no longer than 8
+abbrev size_by : Option Item → Option ℕ
+size_by o = option_map (λ (i : Item). length i.content) o
+
+pub front-none : (o : Option Item) → None ≡ size_by o → None ≡ option_map (λ (i : Item). i.content) o
+front-none None none = refl
+front-none (Some i) none = absurd cc
+
+pub front-whole : (o : Option Item) (size : ℕ) (bs : List ℕ) → Some size ≡ size_by o → Some bs ≡ option_map (λ (i : Item). take 8 i.content) o → size ≤ 8 → Some bs ≡ option_map (λ (i : Item). i.content) o
+front-whole None size bs sized is fits = absurd cc
+front-whole (Some i) size bs sized is fits =
+    let same : size ≡ length i.content = cc in
+    is ∙ ap (λ (xs : List ℕ). Some xs) (take_all 8 i.content (omega (arith, same, fits)))
+
+bits-most : (bits : Bits) → bytes_of_bits bits ≤ 8
+bits-most bits.B8 = omega arith
+bits-most bits.B16 = omega arith
+bits-most bits.B32 = omega arith
+bits-most bits.B64 = omega arith
+
+pub front-longer : (o : Option Item) (size : ℕ) (bits : Bits) → Some size ≡ size_by o → 8 < size → (bs : List ℕ) × (Some bs ≡ option_map (λ (i : Item). i.content) o) × ((length bs == bytes_of_bits bits) ≡ false)
+front-longer None size bits sized past = absurd cc
+front-longer (Some i) size bits sized past =
+    let same : size ≡ length i.content = cc in
+    let other : (length i.content ≡ bytes_of_bits bits) → ⊥ = λ e. omega (arith, e, same, past, bits-most bits) in
+    (i.content, refl, ne_eqb (length i.content) (bytes_of_bits bits) other)

@@ -1,5 +1,5 @@
 -- An endpoint that is ended: its messages are dropped, the oldest first, and then it is gone.
-use Rattle.std.proofs.Common.{◌≡◌, ℕ, zero, suc, ◌+◌, ◌<◌, ◌≤◌, Bool, List, [], ◌∷◌, ◌++◌, length, map, Some, refl, sym, ap, ◌∙◌, subst, arith, drop}
+use Rattle.std.proofs.Common.{◌≡◌, ℕ, zero, suc, ◌+◌, ◌<◌, ◌≤◌, Bool, List, [], ◌∷◌, ◌++◌, length, map, None, Some, refl, sym, ap, ◌∙◌, subst, arith, drop}
 use Rattle.std.specs.Prelude.{count_by, option_map, slice_get}
 use Rattle.mc_base.specs.declared.name.Local.{Local}
 use Rattle.mc_base.specs.declared.request.Slot.{Slot}
@@ -9,7 +9,7 @@ use Rattle.board_model.specs.Choice.{oldest}
 use Rattle.board_model.specs.State as state
 use Rattle.board_model.specs.State.{Item}
 use Rattle.board_model.proofs.ListsCounts.{count-append, count-cons}
-use Rattle.buffer_book.specs.Book.{Book, IsQueued, with_away}
+use Rattle.buffer_book.specs.Book.{Book, IsQueued}
 use Rattle.endpoint_table.specs.Table as endpoint_table
 use Rattle.endpoint_table.proofs.RecordLemmas.{all-weaken}
 use Rattle.message_queue.specs.Queue.{Waiting}
@@ -20,18 +20,19 @@ use Rattle.domain_parts.specs.LaneSeen.{LaneSeen}
 use Rattle.domain_parts.specs.declared.endpoints.Endpoint.{Endpoint}
 use Rattle.domain_parts.specs.declared.peer.Peer.{Peer}
 use Rattle.domain_parts.specs.AllMoved.{numbers_of}
-use Rattle.domain_parts.specs.GivingBack.{GivesBack, IsOutAt}
+use Rattle.domain_parts.specs.GivingBack.{AreOutAt, GivesBack}
 use Rattle.domain_parts.specs.LaneMoves.{LaneMove}
 use Rattle.domain_parts.specs.Records.{Records, all_waiting, waiting_in, with_oldest_taken, with_oldest_taken_at, without_record_at}
 use Rattle.domain_parts.specs.Sound.{AreSound, out_at}
 use Rattle.domain_parts.specs.Tied.{AreTied}
-use Rattle.domain_parts.specs.InBook.{endpoint_in, endpoints_in, item_in}
+use Rattle.domain_parts.specs.InBook.{endpoint_in, endpoints_in, frames_at, item_in}
 use Rattle.domain_parts.specs.InRequests.{handed_slots, with_all_complete}
 use Rattle.domain_parts.specs.declared.requests.Waiters.{Waiters}
 use Rattle.domain_parts.specs.declared.requests.Waiters.TheVariants as waiters
+use Rattle.domain_parts.specs.Steps.{without_frames}
 use Rattle.domain_parts.specs.InPlaces.{is_misplaced, one_if, slots_of, times_in}
 use Rattle.domain_parts.proofs.Completing.{handed-all, receives-all}
-use Rattle.domain_parts.proofs.GivingLemmas.{InPlacesAt, oldest-same, sound-given, stands-out, stands-queued}
+use Rattle.domain_parts.proofs.GivingLemmas.{InPlacesAt, leaves-out, oldest-same, sound-given, stands-queued}
 use Rattle.domain_parts.proofs.Placed.{HasMore, times-here}
 use Rattle.domain_parts.proofs.Queuing.{out-fewer, out-more, same-held}
 use Rattle.domain_parts.proofs.Slots.{slots}
@@ -79,7 +80,7 @@ endpoints-oldest b [] i = refl
 endpoints-oldest b (e ∷ es) zero = ap (λ (q : List Item). record (endpoint_in b e) { queue = q } ∷ endpoints_in b es) (map-oldest b e.queue.waiting)
 endpoints-oldest b (e ∷ es) (suc i) = ap (λ (xs : List state.Endpoint). endpoint_in b e ∷ xs) (endpoints-oldest b es i)
 
--- ---- the oldest message at a place leaves its queue, and is given back
+-- ---- the oldest message at a place leaves its queue, and its buffers are given back
 
 module _ {L : Type 0} (v : L → LaneSeen) (b : Book) (r : Records) (q : Requests) (t : endpoint_table.Table) (ps : List (Peer L)) (i : ℕ) (s : Slot) (sound : AreSound v b r q t ps)
     (first : Some s ≡ option_map (λ (w : Waiting). w.slot) (oldest (waiting_in (slice_get r.endpoints i)))) where
@@ -102,13 +103,13 @@ module _ {L : Type 0} (v : L → LaneSeen) (b : Book) (r : Records) (q : Request
   stands = omega (arith, times-here s (slots_of left q) (slots_of r q) oldest-more)
 
   pub oldest-queued : IsQueued b s
-  oldest-queued = stands-queued v b r q ps sound.peers.rising sound.places sound.total s stands
+  oldest-queued = stands-queued v b r q t ps sound s stands
 
-  pub oldest-out : IsOutAt v s ps
-  oldest-out = stands-out v b r q ps sound.peers.rising sound.places sound.total s stands
+  pub oldest-out : AreOutAt v s.peer (frames_at b s) ps
+  oldest-out = leaves-out v b r q t ps sound left q s refl oldest-more oldest-fewer
 
-  module _ (M : L → List LaneMove → L → Type 0) (ps' : List (Peer L)) (gives : GivesBack M v s ps ps') where
-    pub oldest-sound : AreSound v (with_away b s) left q t ps'
+  module _ (M : L → List LaneMove → L → Type 0) (ps' : List (Peer L)) (gives : GivesBack M v s.peer (frames_at b s) ps ps') where
+    pub oldest-sound : AreSound v (without_frames b s None (frames_at b s)) left q t ps'
     oldest-sound = sound-given M v b r left q q t s ps ps' gives (oldest-same r i) refl oldest-more oldest-fewer sound.receives sound
 
 -- ---- and then it is gone, with the receives that wait there
@@ -128,7 +129,7 @@ gone-sound {L} v b r q t t' ps i at none sound tied =
     record {
       peers = sound.peers;
       places = all-weaken (InPlacesAt v b r q) (InPlacesAt v b r' q') (λ p places. same-held r r' q q' b p.number (out_at v p) refl waits handed places) ps sound.places;
-      total = ap (λ (ws : List Waiting). length (slots ws ++ handed_slots q'.standing) + length r.lent) waits ∙ ap (λ (hs : List Slot). length (slots (all_waiting r.endpoints) ++ hs) + length r.lent) handed ∙ sound.total;
+      shelves = sound.shelves;
       room = sound.room;
       receives = receives-all q (who at) how tt sound.receives;
       tied = tied;

@@ -14,7 +14,7 @@ use Rattle.board_model.specs.State.{DomainState, Request, request_at_place}
 use Rattle.board_model.specs.Answer.{refusal, result_by, result_of, unless_refused}
 use Rattle.board_model.specs.CallChanges.{held_by, lent_by, lent_by_test, message_held}
 use Rattle.board_model.proofs.ListsCounts.{count-cons}
-use Rattle.buffer_book.specs.Book.{Book, kept_at}
+use Rattle.buffer_book.specs.Book.{Book}
 use Rattle.request_set.specs.declared.ask.Ask.{Ask}
 use Rattle.request_set.specs.declared.ask.Ask.TheVariants as ask
 use Rattle.request_set.specs.declared.ask.Complete.{Complete}
@@ -25,7 +25,7 @@ use Rattle.domain_parts.specs.Calls.{place_ended, success_ends}
 use Rattle.domain_parts.specs.DomainView.{place_of_id}
 use Rattle.domain_parts.specs.Table.{with_requests}
 use Rattle.domain_parts.specs.Records.{Records}
-use Rattle.domain_parts.specs.InBook.{asked_in, numbered_at, content_in, outcome_in, request_in, requests_in, table_in}
+use Rattle.domain_parts.specs.InBook.{asked_in, content_in, numbered_at, outcome_in, request_in, requests_in, table_in, whole_at}
 use Rattle.domain_parts.specs.InRequests.{AreReceives, Receives, handed_slots, slots_in}
 use Rattle.domain_parts.proofs.Calling.{cancel_by, cancel-is, test_by, test-is}
 use Rattle.domain_parts.proofs.Handed.{item-in}
@@ -109,8 +109,8 @@ pub request-found : (o : Option Standing) (c : Option Complete) → option_map (
 request-found None c e = absurd cc
 request-found (Some r) c e = let same : r.complete ≡ c = cc in (r, refl, same)
 
-result-is : (b : Book) (a : Ask) (slot : Slot) (max : ℕ) → Receives a (Some (complete.Message slot max)) → result_by (asked_in a) (option_map (outcome_in b) (Some (complete.Message slot max))) ≡ brought (length (content_in (kept_at b slot))) (take max (content_in (kept_at b slot)))
-result-is b (ask.Message at most) slot max is = ap (λ (n : ℕ). brought (length (content_in (kept_at b slot))) (take n (content_in (kept_at b slot)))) (sym is)
+result-is : (b : Book) (a : Ask) (slot : Slot) (max : ℕ) → Receives a (Some (complete.Message slot max)) → result_by (asked_in a) (option_map (outcome_in b) (Some (complete.Message slot max))) ≡ brought (length (content_in (whole_at b slot))) (take max (content_in (whole_at b slot)))
+result-is b (ask.Message at most) slot max is = ap (λ (n : ℕ). brought (length (content_in (whole_at b slot))) (take n (content_in (whole_at b slot)))) (sym is)
 result-is b (ask.Lookup name) slot max is = absurd is
 result-is b (ask.Connect channel) slot max is = absurd is
 result-is b (ask.Packet at) slot max is = absurd is
@@ -151,7 +151,7 @@ module _ (b : Book) (q : Requests) (s : DomainState) (stand : s.requests ≡ req
   no-packet x e = let both : Some (complete.Message slot max) ≡ Some (complete.Packet x) = sym found.2 ∙ e in cc
 
   -- what a test answers
-  pub tested-result : result_of (request_at_place s (place_of_id (ids_in q) id)) ≡ brought (length (content_in (kept_at b slot))) (take max (content_in (kept_at b slot)))
+  pub tested-result : result_of (request_at_place s (place_of_id (ids_in q) id)) ≡ brought (length (content_in (whole_at b slot))) (take max (content_in (whole_at b slot)))
   tested-result =
       let r = found.0 in
       let is : Receives r.ask how = subst (λ (o : Option Complete). Receives r.ask o) found.2 (found-receives (is_id id) r q.standing receives.each found.1) in

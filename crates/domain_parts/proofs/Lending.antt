@@ -1,6 +1,6 @@
--- A packet that is lent: its buffer stays in the book, and all that is held is read as before.
+-- A packet that is lent: its buffers stay in the book, and all that is held is read as before.
 use Rattle.std.proofs.Common.{◌≡◌, ℕ, ◌+◌, ◌-◌, ◌≤◌, Bool, true, false, cond, List, [], ◌∷◌, ◌++◌, length, map, Option, Some, None, refl, sym, ap, ap₂, ◌∙◌, subst, arith, eq-eqb}
-use Rattle.std.specs.Prelude.{count_by, is_some, not, option_and_then, option_map, slice_get, unwrap_or, ◌%◌, ◌^◌, ◌==◌, ◌&&◌}
+use Rattle.std.specs.Prelude.{count_by, is_some, not, option_and_then, option_map, slice_get, ◌%◌, ◌^◌, ◌==◌, ◌&&◌}
 use Rattle.std.specs.List.{AllByRecursion, position_from}
 use Rattle.std.proofs.lemmas.Iterator.Adapters.{position_from-zero}
 use Rattle.std.proofs.lemmas.List.{length-map, length_push, map_push}
@@ -11,7 +11,8 @@ use Rattle.board_model.specs.State as state
 use Rattle.board_model.specs.State.{Item, LentPacket}
 use Rattle.board_model.specs.Unnamed.{unnamed_item}
 use Rattle.board_model.proofs.ListsCounts.{count-append, count-cons}
-use Rattle.buffer_book.specs.Book.{Book, Kept, if_lent, kept_at, queued_at, slot_of, with_lent}
+use Rattle.buffer_book.specs.Book as book
+use Rattle.buffer_book.specs.Book.{Book, if_state, is_state, item_at, lent_under, slot_of, with_lent}
 use Rattle.endpoint_table.specs.Table as endpoint_table
 use Rattle.message_queue.specs.Queue.{Waiting, waiting}
 use Rattle.request_set.specs.declared.ask.Complete.{Complete}
@@ -21,7 +22,7 @@ use Rattle.domain_parts.specs.LaneSeen.{LaneSeen}
 use Rattle.domain_parts.specs.declared.endpoints.Endpoint.{Endpoint}
 use Rattle.domain_parts.specs.declared.peer.Peer.{Peer}
 use Rattle.domain_parts.specs.DomainView.{has_packet_id, place_of_packet_id}
-use Rattle.domain_parts.specs.InBook.{channel_in, content_in, endpoint_in, endpoints_in, numbered_at, item_in, outcome_in, packet_in, packets_in, priority_in, request_in, requests_in, source_in}
+use Rattle.domain_parts.specs.InBook.{channel_in, content_in, endpoint_in, endpoints_in, frames_in, item_in, numbered_at, outcome_in, packet_in, packets_in, priority_in, request_in, requests_in, source_in, whole_at}
 use Rattle.domain_parts.specs.InPlaces.{AreInPlaces, IsLentAs, is_misplaced, is_same, one_if, slots_of, times_in}
 use Rattle.domain_parts.specs.InRequests.{AreReceives}
 use Rattle.domain_parts.specs.Out.{Out}
@@ -29,12 +30,12 @@ use Rattle.domain_parts.specs.Peers.{state_in}
 use Rattle.domain_parts.specs.AllMoved.{numbers_of}
 use Rattle.domain_parts.specs.Records.{Records, all_waiting, lent_slots, with_last_lent}
 use Rattle.domain_parts.specs.Sound.{ArePeers, AreSound, out_at}
-use Rattle.domain_parts.specs.Steps.{next_lent, with_lent_at}
-use Rattle.domain_parts.proofs.Books.{each-slot, kept-there}
+use Rattle.domain_parts.specs.Steps.{next_lent}
+use Rattle.domain_parts.proofs.Books.{changed-item, each-slot, lent-changes, whole-some}
 use Rattle.domain_parts.proofs.GivingLemmas.{All-each, InPlacesAt, SameEndpoints, same-tied}
 use Rattle.domain_parts.proofs.Leaving.{each-lent}
-use Rattle.domain_parts.proofs.Placed.{HasMore, kept-still, kept-was, lent-here, lent-place, no-one, queued-not_lent, stands-of}
-use Rattle.domain_parts.proofs.Slots.{length-more}
+use Rattle.domain_parts.proofs.Placed.{HasMore, Stands, in-place, lane-of, no-one, queued-not_lent, stands-of}
+use Rattle.domain_parts.proofs.Placing.{lane-lent, lending-others, lending-stands, lending-whole}
 use Rattle.domain_parts.proofs.Tables.{All-push}
 
 -- ---- lists
@@ -52,7 +53,7 @@ last-get {X} xs x =
 abbrev pub packet_at_place_in : List LentPacket → Option ℕ → Option LentPacket
 packet_at_place_in ls place = option_and_then (λ i. slice_get ls i) place
 
--- ---- where each buffer holds the same item
+-- ---- where each slot names the same item
 
 module _ (b b' : Book) (same : (s : Slot) (n : ℕ) → item_in b' (waiting s n) ≡ item_in b (waiting s n)) where
   items-same : (ws : List Waiting) → map (item_in b') ws ≡ map (item_in b) ws
@@ -87,36 +88,35 @@ module _ (b b' : Book) (same : (s : Slot) → numbered_at b' s ≡ numbered_at b
       ap (λ (x : Item). record { serial = i.serial; item = x } ∷ packets_in b' ids) (same (slot_of i))
       ∙ ap (λ (xs : List LentPacket). packet_in b i ∷ xs) (packets-same ids)
 
--- ---- a buffer that is in a queue is lent
+-- ---- an item that is in a queue is lent
 
-module _ (b : Book) (s : Slot) (k : Kept) (is : queued_at b s ≡ Some k) where
+module _ (b : Book) (s : Slot) (i : book.Item) (is : item_at b s ≡ Some i) (queued : is_state i.lent None ≡ true) (ss ls : List Slot) (st : Stands ss ls b) where
   abbrev b' : Book
-  b' = with_lent b s k
+  b' = with_lent b s
 
-  abbrev lent_now : Kept
-  lent_now = record k { lent = Some b.lends }
-
-  -- its item stays
-  abbrev read_as : Option Kept → Slot → ℕ → Item
-  read_as o t n = record { peer = t.peer; source = source_in o; priority = n; channel = channel_in o; content = content_in o; frames = t.buffer ∷ [] }
-
-  read-here : (n : ℕ) → read_as (kept_at b' s) s n ≡ read_as (kept_at b s) s n
-  read-here n = ap (λ (o : Option Kept). read_as o s n) (lent-here s b k is) ∙ sym (ap (λ (o : Option Kept). read_as o s n) (kept-was s b k is))
+  -- it stays
+  read-as : (t : Slot) → (source_in (whole_at b' t) ≡ source_in (whole_at b t)) × (channel_in (whole_at b' t) ≡ channel_in (whole_at b t)) × (content_in (whole_at b' t) ≡ content_in (whole_at b t)) × (frames_in (whole_at b' t) ≡ frames_in (whole_at b t)) × (priority_in (whole_at b' t) ≡ priority_in (whole_at b t))
+  read-as = each-slot s (λ t. (source_in (whole_at b' t) ≡ source_in (whole_at b t)) × (channel_in (whole_at b' t) ≡ channel_in (whole_at b t)) × (content_in (whole_at b' t) ≡ content_in (whole_at b t)) × (frames_in (whole_at b' t) ≡ frames_in (whole_at b t)) × (priority_in (whole_at b' t) ≡ priority_in (whole_at b t)))
+      (let now = lending-whole ss ls b st s i is queued in
+      let was = whole-some b s i is in
+      (ap source_in now ∙ sym (ap source_in was), ap channel_in now ∙ sym (ap channel_in was), ap content_in now ∙ sym (ap content_in was), ap frames_in now ∙ sym (ap frames_in was), ap priority_in now ∙ sym (ap priority_in was)))
+      (λ t differ.
+      let same = lending-others ss ls b st s i is queued t differ in
+      (ap source_in same, ap channel_in same, ap content_in same, ap frames_in same, ap priority_in same))
 
   pub item-lent : (t : Slot) (n : ℕ) → item_in b' (waiting t n) ≡ item_in b (waiting t n)
-  item-lent =
-      each-slot s (λ t. (n : ℕ) → item_in b' (waiting t n) ≡ item_in b (waiting t n))
-      read-here
-      (λ t differ n. ap (λ (o : Option Kept). read_as o t n) (kept-there b s (Some lent_now) t differ))
+  item-lent t n =
+      let read = read-as t in
+      ap (λ (x : ℕ). record { peer = t.peer; source = x; priority = n; channel = channel_in (whole_at b' t); content = content_in (whole_at b' t); frames = frames_in (whole_at b' t) }) read.0
+      ∙ ap (λ (x : Option ℕ). record { peer = t.peer; source = source_in (whole_at b t); priority = n; channel = x; content = content_in (whole_at b' t); frames = frames_in (whole_at b' t) }) read.1
+      ∙ ap (λ (x : List ℕ). record { peer = t.peer; source = source_in (whole_at b t); priority = n; channel = channel_in (whole_at b t); content = x; frames = frames_in (whole_at b' t) }) read.2
+      ∙ ap (λ (x : List ℕ). record { peer = t.peer; source = source_in (whole_at b t); priority = n; channel = channel_in (whole_at b t); content = content_in (whole_at b t); frames = x }) read.3
 
-  priority-lent : (t : Slot) → priority_in (kept_at b' t) ≡ priority_in (kept_at b t)
-  priority-lent =
-      each-slot s (λ t. priority_in (kept_at b' t) ≡ priority_in (kept_at b t))
-      (ap priority_in (lent-here s b k is) ∙ sym (ap priority_in (kept-was s b k is)))
-      (λ t differ. ap priority_in (kept-there b s (Some lent_now) t differ))
+  priority-lent : (t : Slot) → priority_in (whole_at b' t) ≡ priority_in (whole_at b t)
+  priority-lent t = (read-as t).4
 
   pub numbered_at-lent : (t : Slot) → numbered_at b' t ≡ numbered_at b t
-  numbered_at-lent t = item-lent t (priority_in (kept_at b' t)) ∙ ap (λ (n : ℕ). item_in b (waiting t n)) (priority-lent t)
+  numbered_at-lent t = item-lent t (priority_in (whole_at b' t)) ∙ ap (λ (n : ℕ). item_in b (waiting t n)) (priority-lent t)
 
   misplaced-lent : (ws : List Waiting) → count_by (is_misplaced b') ws ≡ count_by (is_misplaced b) ws
   misplaced-lent [] = refl
@@ -131,10 +131,9 @@ module _ (b : Book) (s : Slot) (k : Kept) (is : queued_at b s ≡ Some k) where
   id = next_lent b s
 
   new-lent : IsLentAs b' id
-  new-lent = ap (λ (o : Option Kept). is_some (option_and_then (if_lent b.lends) o)) (lent-here s b k is) ∙ ap (λ (x : Bool). is_some (cond x (Some lent_now) None)) (eq-eqb b.lends b.lends refl)
-
-  pub lent-book : with_lent_at b s ≡ b'
-  lent-book = ap (λ (o : Option Kept). unwrap_or (option_map (with_lent b s) o) b) is
+  new-lent =
+      ap (λ (o : Option book.Item). is_some (option_and_then (if_state (Some b.lends)) o)) (changed-item (lent-changes b s i is))
+      ∙ ap (λ (x : Bool). is_some (cond x (Some (lent_under b.lends i)) None)) (eq-eqb b.lends b.lends refl)
 
   -- one slot more is lent
   pub lent-more : (r : Records) → HasMore s (lent_slots r) (lent_slots (with_last_lent r id))
@@ -155,11 +154,11 @@ module _ (b : Book) (s : Slot) (k : Kept) (is : queued_at b s ≡ Some k) where
     module _ (few : count_by (is_misplaced b) (all_waiting r'.endpoints) ≤ count_by (is_misplaced b) (all_waiting r.endpoints)) where
       lent-places : (number : ℕ) (o : Out) → AreInPlaces number r q b o → AreInPlaces number r'' q' b' o
       lent-places number o places =
-          let st = stands-of (lent_slots r) number o (slots_of r q) b [] places.each in
-          let none = queued-not_lent (lent_slots r) (slots_of r q) b s st (ap (λ (o : Option Kept). is_some o) is) in
-          let all = each-lent b s (Some lent_now) r.lent none places.lent in
+          let st' = stands-of (lent_slots r) number o (slots_of r q) b [] places.each in
+          let none = queued-not_lent (slots_of r q) (lent_slots r) b st' s (ap (λ (o : Option book.Item). is_some (option_and_then (if_state None) o)) is ∙ ap (λ (x : Bool). is_some (cond x (Some i) None)) queued) in
+          let all = each-lent b b' s (lending-others (slots_of r q) (lent_slots r) b st' s i is queued) r.lent none places.lent in
           record {
-            each = lent-place s b k is (slots_of r' q') (slots_of r q) (lent_slots r) (lent_slots r'') fewer more number o [] places.each;
+            each = in-place (lent_slots r'') number o (slots_of r' q') b' [] (lending-stands (slots_of r q) (lent_slots r) b st' s i is queued (slots_of r' q') (lent_slots r'') fewer more) (lane-lent (slots_of r q) (lent_slots r) b st' s i is queued number o [] (lane-of (lent_slots r) number o (slots_of r q) b [] places.each));
             priorities = misplaced-lent (all_waiting r'.endpoints) ∙ (let was = places.priorities in omega (arith, was, few));
             lent = All-push (IsLentAs b') r'.lent id (subst (AllByRecursion (IsLentAs b')) (sym lends) all) new-lent;
           }
@@ -169,12 +168,7 @@ module _ (b : Book) (s : Slot) (k : Kept) (is : queued_at b s ≡ Some k) where
           record {
             peers = subst (λ (n : ℕ). ArePeers v n ps) (sym same.number) sound.peers;
             places = All-each (InPlacesAt v b r q) (InPlacesAt v b' r'' q') (λ p places. lent-places p.number (out_at v p) places) ps sound.places;
-            total =
-                let one = length-more s (slots_of r' q') (slots_of r q) fewer in
-                let long = length_push r'.lent id in
-                let lends_long = ap length lends in
-                let total = sound.total in
-                omega (arith, one, long, lends_long, total);
+            shelves = λ n there. sound.shelves n (sym ((lent-changes b s i is).shelves n) ∙ there);
             room = let room = sound.room in let same_room = same.room in omega (arith, room, same_room);
             receives = receives;
             tied = same-tied r r'' t (numbers_of ps) (record { number = same.number; given = same.given; room = same.room; live = same.live }) sound.tied;

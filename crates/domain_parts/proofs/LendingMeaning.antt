@@ -5,7 +5,7 @@ use Rattle.domain_parts.proofs.Receives.{map-without}
 use Rattle.board_model.specs.Labels.{packet_tested}
 use Rattle.board_model.specs.Lists.{changed_at}
 use Rattle.lane_end.proofs.CountLemmas.{length-apart}
-use Rattle.domain_parts.specs.AllMoved.{numbers_of}
+use Rattle.domain_parts.specs.AllMoved.{moves_at, numbers_of}
 use Rattle.domain_parts.specs.Sound.{buffers_count, out_at, outs_count}
 use Rattle.domain_parts.specs.InRequests.{AreReceives, handed_slots}
 use Rattle.domain_parts.specs.declared.endpoints.Endpoint.{Endpoint}
@@ -27,7 +27,8 @@ use Rattle.board_model.specs.State as state
 use Rattle.board_model.specs.State.{DomainState, Item, LentPacket, live_at, place_at, queue_at, queue_in, is_at, request_at_place}
 use Rattle.board_model.proofs.MessageAlls.{found-passes}
 use Rattle.board_model.proofs.StateEnds.{by_address, named_so}
-use Rattle.buffer_book.specs.Book.{Book, Kept, IsQueued, queued_at, slot_of, with_lent}
+use Rattle.buffer_book.specs.Book as book
+use Rattle.buffer_book.specs.Book.{Book, IsQueued, is_state, item_at, slot_of, with_lent}
 use Rattle.message_queue.specs.Queue.{Waiting}
 use Rattle.request_set.specs.declared.ask.Ask.TheVariants as ask
 use Rattle.request_set.specs.declared.ask.Complete.TheVariants as complete
@@ -41,7 +42,7 @@ use Rattle.domain_parts.specs.InBook.{endpoints_in, numbered_at, packets_in, req
 use Rattle.domain_parts.specs.Parts.{Parts, Sound, plain, state_of}
 use Rattle.domain_parts.specs.Peers.{state_in}
 use Rattle.domain_parts.specs.Records.{Records, lent_slots, waiting_in, with_last_lent, with_oldest_taken_at, all_waiting, with_oldest_taken}
-use Rattle.domain_parts.specs.Steps.{Step, all_moves, done, done_all, next_lent, oldest_lent, packet_begun, with_last, with_lent_at, request_begun, packet_ended, step_moves, without_at}
+use Rattle.domain_parts.specs.Steps.{Step, all_moves, done, done_all, next_lent, oldest_lent, packet_begun, with_last, request_begun, packet_ended, step_moves, without_at}
 use Rattle.domain_parts.proofs.Asking.{asked-state}
 use Rattle.domain_parts.proofs.Beginning.{last-ids, last-more, pending-same}
 use Rattle.domain_parts.proofs.CallsAgree.{at-live, there_at}
@@ -49,9 +50,10 @@ use Rattle.domain_parts.proofs.ChannelMeaning.{changed-there}
 use Rattle.domain_parts.proofs.DataMeaning.{oldest-there, no-oldest}
 use Rattle.domain_parts.proofs.Deleting.{endpoints-oldest, oldest-fewer, oldest-more, oldest-queued}
 use Rattle.domain_parts.proofs.Ending.{ids_in}
-use Rattle.domain_parts.proofs.GivingLemmas.{oldest-same, sound-moved, same-endpoints}
-use Rattle.domain_parts.proofs.Lending.{lent-book, lent-sound, lent-state, packet-new, packet_at_place_in}
-use Rattle.domain_parts.proofs.Placed.{queued-not_lent, stands-of, HasMore}
+use Rattle.domain_parts.proofs.GivingLemmas.{all-stand, oldest-same, same-endpoints, sound-moved}
+use Rattle.domain_parts.proofs.Lending.{lent-sound, lent-state, packet-new, packet_at_place_in}
+use Rattle.domain_parts.proofs.Fitting.{held-room}
+use Rattle.domain_parts.proofs.Placed.{HasMore, Stands, queued-not_lent, queued-same}
 use Rattle.domain_parts.proofs.Slots.{handed-has, length-more}
 use Rattle.domain_parts.proofs.StateFits.{ends-of}
 use Rattle.domain_parts.proofs.Stepping.{quiet-peers}
@@ -60,25 +62,13 @@ pub some-of : {X : Type 0} (o : Option X) → is_some o ≡ true → (x : X) × 
 some-of None is = absurd cc
 some-of (Some x) is = (x, refl)
 
--- a buffer that is in a queue is not lent
-none-of_it : (p : Parts) → Sound p → (s : Slot) (k : Kept) → queued_at p.book s ≡ Some k → times_in s (map slot_of p.records.lent) ≡ 0
-none-of_it p sound s k is = go p.peers sound.peers.own sound.places
-  where
-    go : (ps : List (Peer LaneSeen)) → Contains (numbers_of ps) p.records.number → AllByRecursion (λ x. AreInPlaces x.number p.records p.requests p.book (out_at plain x)) ps → times_in s (map slot_of p.records.lent) ≡ 0
-    go [] own placed = absurd (omega (arith, own.1))
-    go (x ∷ ps) own placed = queued-not_lent (lent_slots p.records) (slots_of p.records p.requests) p.book s (stands-of (lent_slots p.records) x.number (out_at plain x) (slots_of p.records p.requests) p.book [] placed.0.each) (ap (λ (o : Option Kept). is_some o) is)
+-- what is in a queue is not lent
+none-of_it : (p : Parts) → Sound p → (s : Slot) → IsQueued p.book s → times_in s (map slot_of p.records.lent) ≡ 0
+none-of_it p sound s is = queued-not_lent (slots_of p.records p.requests) (lent_slots p.records) p.book (all-stand plain p.book p.records p.requests p.table p.peers sound) s is
 
 -- there is room for it
-outs-most : (p : Parts) (ps : List (Peer LaneSeen)) → AllByRecursion (λ x. AreInPlaces x.number p.records p.requests p.book (out_at plain x)) ps → outs_count plain ps ≤ buffers_count plain ps
-outs-most p [] placed = omega arith
-outs-most p (x ∷ ps) placed = let here = length-apart x.ends.size_from x.ends.out placed.0.each.apart in let rest = outs-most p ps placed.1 in omega (arith, here, rest)
-
 pub lent-fits : (p : Parts) → Sound p → (n : ℕ) → length (slots_of p.records p.requests) ≡ n + 1 → length p.records.lent < p.records.room
-lent-fits p sound n one = let most = outs-most p p.peers sound.places in let total = sound.total in let room = sound.room in omega (arith, one, most, total, room)
-
--- what the book says of it
-pub book-lent : (b b' : Book) (s : Slot) → Some b' ≡ option_map (with_lent b s) (queued_at b s) → b' ≡ with_lent_at b s
-book-lent b b' s is = ap (λ (o : Option Book). unwrap_or o b) is
+lent-fits p sound n one = let fit = held-room plain p.book p.records p.requests p.table p.peers sound in omega (arith, one, fit)
 
 -- where nothing is the oldest, nothing is taken
 pub oldest-none : (es : List Endpoint) (i : ℕ) → None ≡ option_map (λ (w : Waiting). w.slot) (oldest (waiting_in (slice_get es i))) → changed_at with_oldest_taken i es ≡ es
@@ -99,11 +89,14 @@ module _ (p : Parts) (sound : Sound p) (i : ℕ) (s : Slot) (first : Some s ≡ 
   abbrev id : PacketId
   id = next_lent p.book s
 
-  pub its-kept : (k : Kept) × (queued_at p.book s ≡ Some k)
-  its-kept = some-of (queued_at p.book s) (oldest-queued plain p.book p.records p.requests p.table p.peers i s sound first)
+  its-queued : IsQueued p.book s
+  its-queued = oldest-queued plain p.book p.records p.requests p.table p.peers i s sound first
 
-  abbrev k : Kept
-  k = its-kept.0
+  it : (x : book.Item) × (item_at p.book s ≡ Some x) × (is_state x.lent None ≡ true)
+  it = queued-same (item_at p.book s) its-queued
+
+  st : Stands (slots_of p.records p.requests) (lent_slots p.records) p.book
+  st = all-stand plain p.book p.records p.requests p.table p.peers sound
 
   more : HasMore s (slots_of r' p.requests) (slots_of p.records p.requests)
   more = oldest-more plain p.book p.records p.requests p.table p.peers i s sound first
@@ -114,15 +107,14 @@ module _ (p : Parts) (sound : Sound p) (i : ℕ) (s : Slot) (first : Some s ≡ 
   abbrev now : Parts
   now = done (oldest_lent i id) p
 
-  pub now-is : now ≡ record { book = with_lent p.book s k; records = with_last_lent r' id; requests = p.requests; table = p.table; peers = p.peers }
+  pub now-is : now ≡ record { book = with_lent p.book s; records = with_last_lent r' id; requests = p.requests; table = p.table; peers = p.peers }
   now-is =
-      ap (λ (b : Book). record now { book = b }) (lent-book p.book s k its-kept.1)
-      ∙ ap (λ (ps : List (Peer LaneSeen)). record { book = with_lent p.book s k; records = with_last_lent r' id; requests = p.requests; table = p.table; peers = ps }) (quiet-peers p.peers)
+      ap (λ (ps : List (Peer LaneSeen)). record { book = with_lent p.book s; records = with_last_lent r' id; requests = p.requests; table = p.table; peers = ps }) (quiet-peers p.peers)
 
   pub oldest_lent-keeps : Sound now
   oldest_lent-keeps =
       subst Sound (sym now-is)
-      (lent-sound p.book s k its-kept.1 p.records r' p.requests p.requests refl more (oldest-fewer plain p.book p.records p.requests p.table p.peers i s sound first) plain p.table p.peers (oldest-same p.records i) sound.receives sound)
+      (lent-sound p.book s it.0 it.1 it.2 (slots_of p.records p.requests) (lent_slots p.records) st p.records r' p.requests p.requests refl more (oldest-fewer plain p.book p.records p.requests p.table p.peers i s sound first) plain p.table p.peers (oldest-same p.records i) sound.receives sound)
 
   module _ (at : Local) (there : place_at (state_of p) at ≡ Some i) where
     abbrev the : (e : state.Endpoint) × (live_at (state_of p) at ≡ Some e)
@@ -147,7 +139,7 @@ module _ (p : Parts) (sound : Sound p) (i : ℕ) (s : Slot) (first : Some s ≡ 
     lend-state : state_of now ≡ changed_all (state_of p) (success_changes (state_of p) at.node (lend_at at.port))
     lend-state =
         ap state_of now-is
-        ∙ lent-state p.book s k its-kept.1 p.records r' p.requests p.requests refl more plain p.table p.peers
+        ∙ lent-state p.book s it.0 it.1 it.2 (slots_of p.records p.requests) (lent_slots p.records) st p.records r' p.requests p.requests refl more plain p.table p.peers
         ∙ ap (λ (u : DomainState). changed u (packet_lent (numbered_at p.book s))) less-state
         ∙ sym (ap (λ (o : Option Item). changed_all (state_of p) (oldest_gone the.0.address ∷ lending o)) front-is)
         ∙ sym (ap (λ (o : Option state.Endpoint). changed_all (state_of p) (at_live o (λ e. oldest_gone e.address ∷ lending (oldest e.queue)))) the.1)
@@ -157,8 +149,6 @@ module _ (p : Parts) (sound : Sound p) (i : ℕ) (s : Slot) (first : Some s ≡ 
         let steps = lend-steps in
         record {
           state = ap (λ (cs : List Step). state_of (done_all cs p)) steps ∙ lend-state;
-          slots = [];
-          returned = refl;
           moves = λ n. ap (λ (cs : List Step). all_moves cs n) steps;
           ids = ap (λ (cs : List Step). ids_in (done_all cs p).requests) steps ∙ sym (append-nil (ids_in p.requests));
           fresh = tt;
@@ -169,12 +159,11 @@ module _ (p : Parts) (sound : Sound p) (i : ℕ) (s : Slot) (first : Some s ≡ 
 
     -- and told by its bytes
     none-lent : times_in s (map slot_of p.records.lent) ≡ 0
-    none-lent = none-of_it p sound s k its-kept.1
+    none-lent = none-of_it p sound s its-queued
 
     pub lend-answer : gives_whole (packet_at_place_in (packets_in now.book now.records.lent) (place_of_packet_id now.records.lent id)) ≡ success (state_of p) at.node (lend_at at.port)
     lend-answer =
-        ap (λ (b : Book). gives_whole (packet_at_place_in (packets_in b now.records.lent) (place_of_packet_id now.records.lent id))) (lent-book p.book s k its-kept.1)
-        ∙ ap gives_whole (packet-new p.book s k its-kept.1 p.records.lent none-lent)
+        ap gives_whole (packet-new p.book s it.0 it.1 it.2 (slots_of p.records p.requests) (lent_slots p.records) st p.records.lent none-lent)
         ∙ sym (ap lent_whole (oldest-there p sound at i there s first))
 
     -- ---- it is a request's
@@ -203,8 +192,6 @@ module _ (p : Parts) (sound : Sound p) (i : ℕ) (s : Slot) (first : Some s ≡ 
           let steps = requested-steps in
           record {
             state = ap (λ (cs : List Step). state_of (done_all cs p)) steps ∙ requested-state;
-            slots = [];
-            returned = refl;
             moves = λ n. ap (λ (cs : List Step). all_moves cs n) steps;
             ids = ap (λ (cs : List Step). ids_in (done_all cs p).requests) steps ∙ last-ids p.requests rid (ask.Packet at) (Some (complete.Packet s));
             fresh = fresh;
@@ -256,8 +243,6 @@ module _ (p : Parts) (sound : Sound p) (at : Local) (i : ℕ) (there : place_at 
             ∙ ap (λ (l : Local). changed_all (state_of p) (oldest_gone who.0.address ∷ request_added (state.packet_at l) None ∷ [])) (sym own)
             ∙ sym (ap (λ (o : Option Item). changed_all (state_of p) (oldest_gone who.0.address ∷ request_added (state.packet_at who.0.local) (option_map state.has_item o) ∷ [])) no-front)
             ∙ sym (ap (λ (o : Option state.Endpoint). changed_all (state_of p) (at_live o (λ e. oldest_gone e.address ∷ request_added (state.packet_at e.local) (option_map state.has_item (oldest e.queue)) ∷ []))) who.1);
-        slots = [];
-        returned = refl;
         moves = λ n. ap (λ (cs : List Step). all_moves cs n) steps;
         ids = ap (λ (cs : List Step). ids_in (done_all cs p).requests) steps ∙ last-ids p.requests rid (ask.Packet at) None;
         fresh = fresh;
@@ -268,7 +253,7 @@ module _ (p : Parts) (sound : Sound p) (at : Local) (i : ℕ) (there : place_at 
 
 -- ---- the packet that a request held is lent
 
-module _ (p : Parts) (sound : Sound p) (place : Option ℕ) (s : Slot) (k : Kept) (is : queued_at p.book s ≡ Some k) (more : HasMore s (handed_slots (without_at p.requests place).standing) (handed_slots p.requests.standing)) where
+module _ (p : Parts) (sound : Sound p) (place : Option ℕ) (s : Slot) (is : IsQueued p.book s) (more : HasMore s (handed_slots (without_at p.requests place).standing) (handed_slots p.requests.standing)) where
   abbrev left : Requests
   left = without_at p.requests place
 
@@ -278,46 +263,48 @@ module _ (p : Parts) (sound : Sound p) (place : Option ℕ) (s : Slot) (k : Kept
   abbrev tested : Parts
   tested = done (packet_ended place tested_id) p
 
+  held : (x : book.Item) × (item_at p.book s ≡ Some x) × (is_state x.lent None ≡ true)
+  held = queued-same (item_at p.book s) is
+
+  stood : Stands (slots_of p.records p.requests) (lent_slots p.records) p.book
+  stood = all-stand plain p.book p.records p.requests p.table p.peers sound
+
   fewer : HasMore s (slots_of p.records left) (slots_of p.records p.requests)
   fewer = ended-more p.records p.requests left p.book s more
 
   pub tested-room : length p.records.lent < p.records.room
   tested-room = lent-fits p sound (length (slots_of p.records left)) (length-more s (slots_of p.records left) (slots_of p.records p.requests) fewer)
 
-  tested-is : tested ≡ record { book = with_lent p.book s k; records = with_last_lent p.records tested_id; requests = left; table = p.table; peers = p.peers }
+  tested-is : tested ≡ record { book = with_lent p.book s; records = with_last_lent p.records tested_id; requests = left; table = p.table; peers = p.peers }
   tested-is =
-      ap (λ (b : Book). record tested { book = b }) (lent-book p.book s k is)
-      ∙ ap (λ (ps : List (Peer LaneSeen)). record { book = with_lent p.book s k; records = with_last_lent p.records tested_id; requests = left; table = p.table; peers = ps }) (quiet-peers p.peers)
+      ap (λ (ps : List (Peer LaneSeen)). record { book = with_lent p.book s; records = with_last_lent p.records tested_id; requests = left; table = p.table; peers = ps }) (quiet-peers p.peers)
 
   pub packet_ended-keeps : AreReceives left → Sound tested
   packet_ended-keeps receives =
       subst Sound (sym tested-is)
-      (lent-sound p.book s k is p.records p.records p.requests left refl fewer (omega arith) plain p.table p.peers (same-endpoints p.records) receives sound)
+      (lent-sound p.book s held.0 held.1 held.2 (slots_of p.records p.requests) (lent_slots p.records) stood p.records p.records p.requests left refl fewer (omega arith) plain p.table p.peers (same-endpoints p.records) receives sound)
 
-  module _ (at : Local) (serial : ℕ) (there : request_at_place (state_of p) place ≡ Some (record { serial = serial; asked = state.packet_at at; outcome = Some (state.has_item (numbered_at p.book s)) })) (held : ending p.book place (how_held p.requests place) ≡ packet_ended place tested_id) where
+  module _ (at : Local) (serial : ℕ) (there : request_at_place (state_of p) place ≡ Some (record { serial = serial; asked = state.packet_at at; outcome = Some (state.has_item (numbered_at p.book s)) })) (ends : ending p.book place (how_held p.requests place) ≡ packet_ended place tested_id) where
     tested-state : state_of tested ≡ changed_all (state_of p) (success_changes (state_of p) 0 (test_of place))
     tested-state =
         ap state_of tested-is
-        ∙ lent-state p.book s k is p.records p.records p.requests left refl fewer plain p.table p.peers
+        ∙ lent-state p.book s held.0 held.1 held.2 (slots_of p.records p.requests) (lent_slots p.records) stood p.records p.records p.requests left refl fewer plain p.table p.peers
         ∙ ap (λ (rs : List state.Request). changed (record (state_of p) { requests = rs }) (packet_lent (numbered_at p.book s))) (map-without (request_in p.book) place p.requests.standing)
         ∙ sym (ap (λ (o : Option state.Request). changed_all (changed (state_of p) (request_gone place)) (lent_by_test o)) there)
 
     pub packet-means : Means p 0 (test_of place) None
     packet-means =
         record {
-          state = ap (λ (c : Step). state_of (done c p)) held ∙ tested-state;
-          slots = [];
-          returned = sym (ap held_by there);
-          moves = λ n. ap (λ (c : Step). step_moves c n) held;
-          ids = ap (λ (c : Step). ids_in (done c p).requests) held ∙ left-ids p place;
+          state = ap (λ (c : Step). state_of (done c p)) ends ∙ tested-state;
+          moves = λ n. ap (λ (c : Step). step_moves c n) ends ∙ ap (λ (is : List Item). moves_at [] is n) (sym (ap held_by there));
+          ids = ap (λ (c : Step). ids_in (done c p).requests) ends ∙ left-ids p place;
           fresh = tt;
           lent = Some tested_id;
-          packets = ap (λ (c : Step). (done c p).records.lent) held;
+          packets = ap (λ (c : Step). (done c p).records.lent) ends;
           lends = sym (ap (packet_tested (state_of p)) there);
         }
 
     pub packet-answer : brings_whole (packet_at_place_in (packets_in tested.book tested.records.lent) (place_of_packet_id tested.records.lent tested_id)) ≡ result_of (request_at_place (state_of p) place)
     packet-answer =
-        ap (λ (b : Book). brings_whole (packet_at_place_in (packets_in b tested.records.lent) (place_of_packet_id tested.records.lent tested_id))) (lent-book p.book s k is)
-        ∙ ap brings_whole (packet-new p.book s k is p.records.lent (none-of_it p sound s k is))
+        ap brings_whole (packet-new p.book s held.0 held.1 held.2 (slots_of p.records p.requests) (lent_slots p.records) stood p.records.lent (none-of_it p sound s is))
         ∙ sym (ap result_of there)

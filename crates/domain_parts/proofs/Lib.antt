@@ -1,10 +1,15 @@
 pub mod Books
 pub mod Placed
+pub mod Placing
+pub mod Copying
+pub mod Giving
+pub mod Fitting
 pub mod Slots
 pub mod Leaving
 pub mod Lending
 pub mod LendingMeaning
 pub mod Releasing
+mod LentPieces
 pub mod PacketWords
 pub mod Outs
 pub mod LinkPlaces

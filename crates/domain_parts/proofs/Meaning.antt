@@ -1,6 +1,7 @@
 -- What the steps of each call's success mean.
 use Rattle.std.proofs.Common.{◌≡◌, ℕ, ◌+◌, Bool, true, false, cond, List, [], ◌∷◌, ◌++◌, map, Option, Some, None, refl, sym, ap, ◌∙◌, subst}
 use Rattle.std.specs.Prelude.{option_and_then, option_map, option_to_list, position, slice_get, ◌==◌}
+use Rattle.std.specs.List.{flat_map}
 use Rattle.std.proofs.lemmas.List.{append-nil}
 use Rattle.mc_base.specs.FullName.{end_name}
 use Rattle.mc_base.specs.Letter.{msg}
@@ -20,7 +21,6 @@ use Rattle.board_model.specs.Lists.{without}
 use Rattle.board_model.specs.State as state
 use Rattle.board_model.specs.State.{Item, Outcome, has_address, has_item, name_of, place_at, queue_in, request_at_place}
 use Rattle.endpoint_table.specs.Table.{created}
-use Rattle.lane_end.specs.ReceiveMoves.{Gave}
 use Rattle.lane_end.specs.SendMoves.{Sent}
 use Rattle.message_queue.specs.Queue.{Waiting}
 use Rattle.request_set.specs.declared.ask.Ask.TheVariants as ask
@@ -31,18 +31,19 @@ use Rattle.domain_parts.specs.LaneSeen.{LaneSeen}
 use Rattle.domain_parts.specs.declared.endpoints.Endpoint.{Endpoint}
 use Rattle.domain_parts.specs.declared.peer.Peer.{Peer}
 use Rattle.domain_parts.specs.declared.requests.Waiters.TheVariants as waiters
-use Rattle.domain_parts.specs.AllMoved.{giving}
+use Rattle.domain_parts.specs.AllMoved.{giving, moves_at}
 use Rattle.domain_parts.specs.Calls.{IsFresh}
-use Rattle.domain_parts.specs.CallSteps.{slot_moves, Means, best_slot, call_steps, ending, if_some, putting_all, receiving, how_held}
+use Rattle.domain_parts.specs.CallSteps.{Means, best_slot, call_steps, ending, if_some, putting_all, receiving, how_held}
 use Rattle.domain_parts.specs.DomainView.{place_of_id}
-use Rattle.domain_parts.specs.GivingBack.{IsOutAt}
-use Rattle.domain_parts.specs.InBook.{endpoints_in, numbered_at, item_in, outcome_in, request_in}
+use Rattle.domain_parts.specs.GivingBack.{AreOutAt}
+use Rattle.domain_parts.specs.InBook.{endpoints_in, frames_at, item_in, numbered_at, outcome_in, request_in}
 use Rattle.domain_parts.specs.InRequests.{AreReceives, handed_slots, slots_in, with_all_complete}
-use Rattle.domain_parts.specs.LaneMoves.{receiver, sender}
+use Rattle.buffer_book.specs.Book.{Book}
+use Rattle.domain_parts.specs.LaneMoves.{sender}
 use Rattle.domain_parts.specs.Parts.{Parts, Sound, plain, state_of}
 use Rattle.domain_parts.specs.Peers.{state_in}
 use Rattle.domain_parts.specs.Records.{Records, waiting_in, with_best_taken_at, with_record}
-use Rattle.domain_parts.specs.Steps.{Step, all_moves, done, done_all, message_ended, request_ended, step_moves, with_last, without_at}
+use Rattle.domain_parts.specs.Steps.{Step, all_moves, at_peer, done, done_all, message_ended, request_ended, step_moves, with_last, without_at}
 use Rattle.domain_parts.specs.VisitMoves.{putting}
 use Rattle.domain_parts.proofs.Asking.{asked-state}
 use Rattle.domain_parts.proofs.CallsAgree.{create-agrees, raw-agrees, receive-agrees, request-agrees, returned-agrees, send-agrees}
@@ -62,9 +63,12 @@ use Rattle.domain_parts.proofs.TiedStates.{made-state}
 use Rattle.domain_parts.proofs.Waits.{queue-there}
 
 -- a buffer given back, and a frame put, at a peer whose number is the one or not
-pub one-gave : (s : Slot) (b : Bool) → cond b (receiver (Gave s.buffer) ∷ []) [] ≡ giving (map (λ (x : Slot). x.buffer) (cond b (s ∷ []) []))
-one-gave s true = refl
-one-gave s false = refl
+pub one-gave : (b : Book) (s : Slot) (n : ℕ) → at_peer s.peer (giving (frames_at b s)) n ≡ moves_at [] (numbered_at b s ∷ []) n
+one-gave b s n = go (s.peer == n)
+  where
+    go : (x : Bool) → cond x (giving (frames_at b s)) [] ≡ giving (flat_map (λ (i : Item). i.frames) (cond x (numbered_at b s ∷ []) []))
+    go true = ap giving (sym (append-nil (frames_at b s)))
+    go false = refl
 
 pub one-put : (d : ℕ) (f : List ℕ) (b : Bool) → cond b (sender (Sent f) ∷ []) [] ≡ putting (map (λ (x : ℕ × List ℕ). x.1) (cond b ((d, f) ∷ []) [])) ++ []
 one-put d f true = refl
@@ -75,9 +79,7 @@ one-put d f false = refl
 pub send-means : (p : Parts) → Sound p → (node port : ℕ) (to : EndName) (priority : ℕ) (bytes frame : List ℕ) (i : ℕ) → Some i ≡ position (λ (x : Peer LaneSeen). x.number == to.domain) p.peers → frames_needed (msg priority bytes) ≡ 1 → success_puts (state_of p) node (send_from port to priority bytes) ≡ (to.domain, frame) ∷ [] → Means p node (send_from port to priority bytes) None
 send-means p sound node port to priority bytes frame i there one puts = record {
   state = ap (λ (ps : List (ℕ × List ℕ)). state_of (done_all (putting_all ps) p)) puts ∙ (frame_put-is p to.domain frame sound i there ∙ send-agrees (state_of p) node port to priority bytes one);
-  slots = [];
-  returned = refl;
-  moves = λ n. ap (λ (ps : List (ℕ × List ℕ)). all_moves (putting_all ps) n) puts ∙ one-put to.domain frame (to.domain == n) ∙ ap (λ (ps : List (ℕ × List ℕ)). slot_moves ps [] n) (sym puts);
+  moves = λ n. ap (λ (ps : List (ℕ × List ℕ)). all_moves (putting_all ps) n) puts ∙ one-put to.domain frame (to.domain == n) ∙ ap (λ (ps : List (ℕ × List ℕ)). moves_at ps [] n) (sym puts);
   ids = ap (λ (ps : List (ℕ × List ℕ)). ids_in (done_all (putting_all ps) p).requests) puts ∙ sym (append-nil (ids_in p.requests));
   fresh = tt;
   lent = None;
@@ -90,8 +92,6 @@ send-means p sound node port to priority bytes frame i there one puts = record {
 pub raw-means : (p : Parts) → Sound p → (node to : ℕ) (bytes : List ℕ) (i : ℕ) → Some i ≡ position (λ (x : Peer LaneSeen). x.number == to) p.peers → Means p node (raw_to to bytes) None
 raw-means p sound node to bytes i there = record {
   state = frame_put-is p to bytes sound i there ∙ raw-agrees (state_of p) node to bytes;
-  slots = [];
-  returned = refl;
   moves = λ n. one-put to bytes (to == n);
   ids = sym (append-nil (ids_in p.requests));
   fresh = tt;
@@ -108,9 +108,9 @@ module _ (p : Parts) (sound : Sound p) (i : ℕ) (w : Waiting) (is : best (λ (x
       let steps = sym (best_dropped-steps p sound i w is at there max) in
       record {
         state = ap (λ (cs : List Step). state_of (done_all cs p)) (sym steps) ∙ (best_dropped-is p sound i w is at (sym there) ∙ receive-agrees (state_of p) (ends-of plain p.book p.records p.requests p.table p.peers sound) at max);
-        slots = w.slot ∷ [];
-        returned = ap (λ (y : Item). y ∷ []) (best-item plain p.book p.records p.requests p.table p.peers sound i w is) ∙ ap (λ (o : Option Item). option_to_list o) (sym (best-is plain p.book p.records p.requests p.table p.peers sound i w is at (sym there))) ∙ returned-agrees (state_of p) at.node (receive_at at.port max);
-        moves = λ n. ap (λ (cs : List Step). all_moves cs n) (sym steps) ∙ one-gave w.slot (w.slot.peer == n);
+        moves = λ n.
+            ap (λ (cs : List Step). all_moves cs n) (sym steps) ∙ one-gave p.book w.slot n
+            ∙ ap (λ (is : List Item). moves_at [] is n) (ap (λ (y : Item). y ∷ []) (best-item plain p.book p.records p.requests p.table p.peers sound i w is) ∙ ap (λ (o : Option Item). option_to_list o) (sym (best-is plain p.book p.records p.requests p.table p.peers sound i w is at (sym there))) ∙ returned-agrees (state_of p) at.node (receive_at at.port max));
         ids = ap (λ (cs : List Step). ids_in (done_all cs p).requests) (sym steps) ∙ sym (append-nil (ids_in p.requests));
         fresh = tt;
         lent = None;
@@ -123,8 +123,6 @@ module _ (p : Parts) (sound : Sound p) (i : ℕ) (w : Waiting) (is : best (λ (x
 pub available-means : (p : Parts) (node port : ℕ) → Means p node (available_at port) None
 available-means p node port = record {
   state = refl;
-  slots = [];
-  returned = refl;
   moves = λ n. refl;
   ids = sym (append-nil (ids_in p.requests));
   fresh = tt;
@@ -141,8 +139,6 @@ create-means p sound at =
     let how = complete.Address (1024 + p.table.given) in
     record {
       state = ap (λ (ps : List (Peer LaneSeen)). state_in plain p.book (with_record p.records at) (with_all_complete p.requests who how) (created p.table at) ps) (quiet-peers p.peers) ∙ made-state plain p.book p.book p.records p.requests p.requests p.table p.peers p.peers sound.peers.rising sound.tied at ∙ create-agrees (state_of p) at;
-      slots = [];
-      returned = refl;
       moves = λ n. refl;
       ids = ids-all who how p.requests.standing ∙ sym (append-nil (ids_in p.requests));
       fresh = tt;
@@ -165,8 +161,6 @@ lookup-means p name id fresh =
       state = ap (λ (ps : List (Peer LaneSeen)). state_in plain p.book p.records (with_last p.requests id (ask.Lookup name) how) p.table ps) (quiet-peers p.peers)
           ∙ asked-state plain p.book p.records p.requests p.table p.peers id (ask.Lookup name) how fresh.serial
           ∙ ap (λ (o : Option Outcome). with_request (state_of p) (name_of name) o) (outcome-known p.book (address_of (state_of p) name));
-      slots = [];
-      returned = refl;
       moves = λ n. refl;
       ids = last-ids p.requests id (ask.Lookup name) how;
       fresh = fresh;
@@ -195,8 +189,6 @@ module _ (p : Parts) (sound : Sound p) (i : ℕ) (id : RequestId) (at : Local) (
             ∙ ap (λ (ps : List (Peer LaneSeen)). state_in plain p.book (with_best_taken_at p.records i) (with_last p.requests id (ask.Message at max) how) p.table ps) (quiet-peers p.peers)
             ∙ begun-state plain p.book p.records p.requests p.table p.peers i id at.node at.port max how (sym there) fresh.serial outcome
             ∙ request-agrees (state_of p) (ends-of plain p.book p.records p.requests p.table p.peers sound) at max i there;
-        slots = [];
-        returned = refl;
         moves = λ n. ap (λ (cs : List Step). all_moves cs n) (sym steps);
         ids = ap (λ (cs : List Step). ids_in (done_all cs p).requests) (sym steps) ∙ last-ids p.requests id (ask.Message at max) how;
         fresh = fresh;
@@ -218,8 +210,6 @@ module _ (p : Parts) (sound : Sound p) (i : ℕ) (id : RequestId) (at : Local) (
             ∙ ap (λ (r : Records). state_in plain p.book r (with_last p.requests id (ask.Message at max) None) p.table p.peers) same
             ∙ begun-state plain p.book p.records p.requests p.table p.peers i id at.node at.port max None (sym there) fresh.serial (ap (λ (o : Option Item). option_map has_item o) (sym nothing))
             ∙ request-agrees (state_of p) (ends-of plain p.book p.records p.requests p.table p.peers sound) at max i there;
-        slots = [];
-        returned = refl;
         moves = λ n. ap (λ (cs : List Step). all_moves cs n) (sym steps);
         ids = ap (λ (cs : List Step). ids_in (done_all cs p).requests) (sym steps) ∙ last-ids p.requests id (ask.Message at max) None;
         fresh = fresh;
@@ -275,8 +265,6 @@ module _ (p : Parts) (place : Option ℕ) where
   pub cancel-means : Means p 0 (cancel_of place) None
   cancel-means = record {
     state = left-state;
-    slots = [];
-    returned = refl;
     moves = λ n. refl;
     ids = left-ids;
     fresh = tt;
@@ -291,9 +279,7 @@ module _ (p : Parts) (place : Option ℕ) where
       let step : request_ended place ≡ ending p.book place (how_held p.requests place) = sym quiet in
       record {
         state = ap (λ (c : Step). state_of (done c p)) (sym step) ∙ left-state ∙ ap (λ (cs : List Change). changed_all (changed (state_of p) (request_gone place)) cs) (sym lends);
-        slots = [];
-        returned = sym items;
-        moves = λ n. ap (λ (c : Step). step_moves c n) (sym step);
+        moves = λ n. ap (λ (c : Step). step_moves c n) (sym step) ∙ ap (λ (is : List Item). moves_at [] is n) (sym items);
         ids = ap (λ (c : Step). ids_in (done c p).requests) (sym step) ∙ left-ids;
         fresh = tt;
         lent = None;
@@ -302,18 +288,16 @@ module _ (p : Parts) (place : Option ℕ) where
       }
 
   -- one that held a message
-  module _ (sound : Sound p) (s : Slot) (held : ending p.book place (how_held p.requests place) ≡ message_ended place s) (out : IsOutAt plain s p.peers) (more : HasMore s (handed_slots (without_at p.requests place).standing) (handed_slots p.requests.standing)) where
+  module _ (sound : Sound p) (s : Slot) (held : ending p.book place (how_held p.requests place) ≡ message_ended place s (frames_at p.book s)) (out : AreOutAt plain s.peer (frames_at p.book s) p.peers) (more : HasMore s (handed_slots (without_at p.requests place).standing) (handed_slots p.requests.standing)) where
     pub tested-means : held_by (request_at_place (state_of p) place) ≡ numbered_at p.book s ∷ [] → lent_by_test (request_at_place (state_of p) place) ≡ [] → Means p 0 (test_of place) None
     tested-means items lends =
-        let step : message_ended place s ≡ ending p.book place (how_held p.requests place) = sym held in
+        let step : message_ended place s (frames_at p.book s) ≡ ending p.book place (how_held p.requests place) = sym held in
         record {
           state = ap (λ (c : Step). state_of (done c p)) (sym step)
-              ∙ given-state Any (λ l. tt) plain p.book p.records p.records p.requests (without_at p.requests place) p.table s p.peers _ (gives-seen s p.peers sound.peers.rising out) (ended-more p.records p.requests (without_at p.requests place) p.book s more) sound.places refl refl refl
+              ∙ given-state Any (λ l. tt) plain p.book p.records p.records p.requests (without_at p.requests place) p.table s p.peers _ (gives-seen s.peer (frames_at p.book s) p.peers sound.peers.rising out) (ended-more p.records p.requests (without_at p.requests place) p.book s more) sound.places refl refl refl
               ∙ ap (λ (rs : List state.Request). record (state_of p) { requests = rs }) (map-without (request_in p.book) place p.requests.standing)
               ∙ ap (λ (cs : List Change). changed_all (changed (state_of p) (request_gone place)) cs) (sym lends);
-          slots = s ∷ [];
-          returned = sym items;
-          moves = λ n. ap (λ (c : Step). step_moves c n) (sym step) ∙ one-gave s (s.peer == n);
+          moves = λ n. ap (λ (c : Step). step_moves c n) (sym step) ∙ one-gave p.book s n ∙ ap (λ (is : List Item). moves_at [] is n) (sym items);
           ids = ap (λ (c : Step). ids_in (done c p).requests) (sym step) ∙ left-ids;
           fresh = tt;
           lent = None;

@@ -1,6 +1,6 @@
 -- A domain at its opening: its peers stand in rising number, and nothing is held, known or owed.
 use Rattle.std.proofs.Common.{◌≡◌, ◌≤◌, ◌<◌, ◌+◌, ◌*◌, ℕ, Bool, true, false, cond, List, [], ◌∷◌, map, length, replicate, Option, Some, None, refl, sym, ap, ◌∙◌, subst, arith}
-use Rattle.std.specs.Prelude.{Contains, find, is_some, nat_lt, option_and_then, option_map, slice_get, sum_by, ◌==◌}
+use Rattle.std.specs.Prelude.{Contains, find, is_some, nat_lt, option_and_then, option_map, position, slice_get, sum_by, ◌==◌}
 use Rattle.std.specs.List.{AllByRecursion}
 use Rattle.std.proofs.lemmas.Bool.{ltb-false, ltb-true, ne_eqb}
 use Rattle.std.proofs.lemmas.List.{get_or-replicate, length-map, length-replicate}
@@ -14,7 +14,15 @@ use Rattle.board_model.specs.State as state
 use Rattle.board_model.specs.State.{Announcement, new_peer, opening}
 use Rattle.board_model.proofs.ListsApart.{all-map, all-unmap, differ-found}
 use Rattle.board_model.proofs.MessageAlls.{all-weaken, all-with}
-use Rattle.buffer_book.specs.Book.{AllDiffer, Book, Kept, Shelf, empty_shelf, if_queued, kept_at, opening_book, place_at}
+use Rattle.buffer_book.specs.Book.{AllDiffer, Book, Item, Kept, Shelf, empty_shelf, if_state, item_at, kept_at, name_at, opening_book, place_at, shelf_of}
+use Rattle.buffer_book.proofs.ItemLemmas.{item-name}
+use Rattle.buffer_book.proofs.NoneAside.{none-opening}
+use Rattle.lane_end.specs.Numbers.{often}
+use Rattle.domain_parts.specs.InBook.{content_in}
+use Rattle.board_model.proofs.ListsCounts.{some_place}
+use Rattle.board_model.proofs.MessageLists.{some-position}
+use Rattle.domain_parts.proofs.Books.{frames-none, whole-none}
+use Rattle.domain_parts.proofs.PeerPlaces.{found-contained}
 use Rattle.endpoint_table.specs.Table as endpoint_table
 use Rattle.endpoint_table.specs.Table.{Owing, nothing_owed, opening_table, owing_to}
 use Rattle.lane_end.specs.Loop.{Loop, new_loop}
@@ -26,7 +34,7 @@ use Rattle.domain_parts.specs.declared.ends.Ends.TheVariants.{Own, Linked}
 use Rattle.domain_parts.specs.declared.peer.Peer.{Peer}
 use Rattle.domain_parts.specs.AllMoved.{ends_of, numbers_of}
 use Rattle.domain_parts.specs.Ends.{ends_seen}
-use Rattle.domain_parts.specs.InPlaces.{AreInPlaces, EachInPlace, IsShort, one_if}
+use Rattle.domain_parts.specs.InPlaces.{AreInPlaces, EachInPlace, IsNamed, one_if}
 use Rattle.domain_parts.specs.Opened.{linked_peer, own_peer, peers_opened, placed, size_of, sizes_opened}
 use Rattle.domain_parts.specs.Opening.{AreLinksOf, IsOpenLink, ends_opened, neighbour_of, neighbours_opened}
 use Rattle.domain_parts.specs.Out.{out_of}
@@ -77,6 +85,36 @@ module _ (sizes : List (ℕ × ℕ)) where
       go None = refl
       go (Some x) = ap (λ (o : Option (Option Kept)). option_and_then (λ p. p) o) (replicated x.1 s.buffer None) ∙ none-kept (nat_lt s.buffer x.1)
 
+  abbrev name_on : ℕ → Option Shelf → Option (Option Item)
+  name_on n o = option_and_then (λ (s : Shelf). slice_get s.items n) o
+
+  name-is : (s : Slot) → name_at (opening_book sizes) s ≡ name_on s.buffer (option_map empty_shelf (find (is_of s.peer) sizes))
+  name-is s = ap (name_on s.buffer) (shelf-is sizes s.peer)
+
+  -- no name stands for an item
+  item-none : (s : Slot) → item_at (opening_book sizes) s ≡ None
+  item-none s = item-name (opening_book sizes) s ∙ ap (λ (o : Option (Option Item)). option_and_then (λ i. i) o) (name-is s) ∙ go (find (is_of s.peer) sizes)
+    where
+      none : (b : Bool) → option_and_then (λ (i : Option Item). i) (cond b (Some None) None) ≡ None
+      none true = refl
+      none false = refl
+
+      go : (o : Option (ℕ × ℕ)) → option_and_then (λ (i : Option Item). i) (name_on s.buffer (option_map empty_shelf o)) ≡ None
+      go None = refl
+      go (Some x) = ap (λ (o : Option (Option Item)). option_and_then (λ i. i) o) (replicated x.1 s.buffer None) ∙ none (nat_lt s.buffer x.1)
+
+  -- there is a name for each buffer
+  names-known : (s : Slot) → is_some (name_at (opening_book sizes) s) ≡ is_some (place_at (opening_book sizes) s)
+  names-known s = ap (λ (o : Option (Option Item)). is_some o) (name-is s) ∙ go (find (is_of s.peer) sizes) ∙ sym (ap (λ (o : Option (Option Kept)). is_some o) (place-is s))
+    where
+      same : (b : Bool) → is_some {T = Option Item} (cond b (Some None) None) ≡ is_some {T = Option Kept} (cond b (Some None) None)
+      same true = refl
+      same false = refl
+
+      go : (o : Option (ℕ × ℕ)) → is_some (name_on s.buffer (option_map empty_shelf o)) ≡ is_some (place_on s.buffer (option_map empty_shelf o))
+      go None = refl
+      go (Some x) = ap (λ (o : Option (Option Item)). is_some o) (replicated x.1 s.buffer None) ∙ same (nat_lt s.buffer x.1) ∙ sym (ap (λ (o : Option (Option Kept)). is_some o) (replicated x.1 s.buffer None))
+
   some-place : (b : Bool) → is_some {T = Option Kept} (cond b (Some None) None) ≡ b
   some-place true = refl
   some-place false = refl
@@ -89,13 +127,17 @@ module _ (sizes : List (ℕ × ℕ)) where
   placed-opening : (domain room number size : ℕ) → find (is_of number) sizes ≡ Some (number, size) → AreInPlaces number (opening_records domain room) no_requests (opening_book sizes) (out_of size [])
   placed-opening domain room number size found =
       let each : EachInPlace number (out_of size []) [] [] (opening_book sizes) [] = record {
-        stands_once = λ s. sym (ap (λ (o : Option Kept). one_if (is_some (option_and_then if_queued o))) (kept-none s));
-        lent_once = λ s. ap (λ (o : Option Kept). 0 + one_if (is_some (option_and_then if_queued o))) (kept-none s) ∙ sym (ap (λ (o : Option Kept). one_if (is_some o)) (kept-none s));
+        stands_once = λ s. sym (ap (λ (o : Option Item). one_if (is_some (option_and_then (if_state None) o))) (item-none s));
+        lent_once = λ s. ap (λ (o : Option Item). 0 + one_if (is_some (option_and_then (if_state None) o))) (item-none s) ∙ sym (ap (λ (o : Option Item). one_if (is_some o)) (item-none s));
+        framed = λ f. sym (ap (λ (o : Option Kept). one_if (is_some o)) (kept-none f));
+        differ = λ s f. let none = ap (often f) (frames-none (opening_book sizes) s (item-none s)) in let zero : often f [] ≡ 0 = refl in omega (arith, none, zero);
+        named = λ s. subst (IsNamed s) (sym (item-none s)) tt;
+        none_aside = none-opening sizes;
+        names = names-known;
         known = λ n. place-known number size n found;
-        short = λ s. subst (λ (o : Option Kept). IsShort o) (sym (kept-none s)) tt;
+        short = λ s. let none = ap (λ w. length (content_in w)) (whole-none (opening_book sizes) s (item-none s)) in let zero : length (content_in None) ≡ 0 = refl in omega (arith, none, zero);
         once = λ n. let none = ap (λ (o : Option Kept). one_if (is_some o)) (kept-none (record { peer = number; buffer = n })) in omega (arith, none);
         apart = λ n. omega arith;
-        all = refl;
       } in
       record { each = each; priorities = refl; lent = tt }
 
@@ -200,18 +242,50 @@ module _ {S R : Type 0} (size_to : S → ℕ) (free : S → List ℕ) (size_from
         all-placed number IsInPlaces linked_peer own ls (placed-opening sizes number room number pool found.0)
         (all-with IsOpen (λ (l : Link S R). find (is_of sizes l.peer) sizes ≡ Some (size_of l)) (λ (l : Link S R). IsInPlaces (linked_peer l)) link-placed ls each (all-unmap (λ (x : ℕ × ℕ). find (is_of sizes x.0) sizes ≡ Some x) size_of ls found.1))
 
+    -- the book knows no others
+    same-some : (n : ℕ) (xs : List (Link S R)) → is_some (find (λ (x : ℕ × ℕ). x.0 == n) (map size_of xs)) ≡ is_some (find (λ m. m == n) (map number_of xs))
+    same-some n [] = refl
+    same-some n (l ∷ xs) = go (l.peer == n) (same-some n xs)
+      where
+        go : (b : Bool) → is_some (find (λ (x : ℕ × ℕ). x.0 == n) (map size_of xs)) ≡ is_some (find (λ m. m == n) (map number_of xs)) → is_some (cond b (Some (size_of l)) (find (λ (x : ℕ × ℕ). x.0 == n) (map size_of xs))) ≡ is_some (cond b (Some (number_of l)) (find (λ m. m == n) (map number_of xs)))
+        go true rest = refl
+        go false rest = rest
+
+    abbrev own_size : Option (ℕ × ℕ)
+    own_size = Some (number, pool)
+
+    known-placed : (n : ℕ) (xs : List (Link S R)) → is_some (cond (number == n) own_size (find (λ (x : ℕ × ℕ). x.0 == n) (map size_of xs))) ≡ true → is_some (find (λ m. m == n) (placed number number_of number xs)) ≡ true
+    known-placed n [] is = go (number == n) is
+      where
+        go : (b : Bool) → is_some (cond b own_size None) ≡ true → is_some (cond b (Some number) None) ≡ true
+        go true e = refl
+        go false e = absurd cc
+    known-placed n (l ∷ xs) is = by (nat_lt number l.peer) (number == n) refl (l.peer == n) refl (same-some n xs) (λ left. known-placed n xs left)
+      where
+        by : (b c : Bool) → (number == n) ≡ c → (d : Bool) → (l.peer == n) ≡ d → is_some (find (λ (x : ℕ × ℕ). x.0 == n) (map size_of xs)) ≡ is_some (find (λ m. m == n) (map number_of xs))
+            → (is_some (cond (number == n) own_size (find (λ (x : ℕ × ℕ). x.0 == n) (map size_of xs))) ≡ true → is_some (find (λ m. m == n) (placed number number_of number xs)) ≡ true)
+            → is_some (find (λ m. m == n) (cond b (number ∷ map number_of (l ∷ xs)) (number_of l ∷ placed number number_of number xs))) ≡ true
+        by true true one d two same later = ap (λ (x : Bool). is_some (cond x (Some number) (find (λ m. m == n) (map number_of (l ∷ xs))))) one
+        by true false one true two same later = ap (λ (x : Bool). is_some (cond x (Some number) (find (λ m. m == n) (map number_of (l ∷ xs))))) one ∙ ap (λ (x : Bool). is_some (cond x (Some l.peer) (find (λ m. m == n) (map number_of xs)))) two
+        by true false one false two same later =
+            ap (λ (x : Bool). is_some (cond x (Some number) (find (λ m. m == n) (map number_of (l ∷ xs))))) one ∙ ap (λ (x : Bool). is_some (cond x (Some l.peer) (find (λ m. m == n) (map number_of xs)))) two
+            ∙ sym same ∙ sym (ap (λ (x : Bool). is_some (cond x own_size (cond (l.peer == n) (Some (size_of l)) (find (λ (x : ℕ × ℕ). x.0 == n) (map size_of xs))))) one ∙ ap (λ (x : Bool). is_some (cond x (Some (size_of l)) (find (λ (x : ℕ × ℕ). x.0 == n) (map size_of xs)))) two) ∙ is
+        by false c one true two same later = ap (λ (x : Bool). is_some (cond x (Some l.peer) (find (λ m. m == n) (placed number number_of number xs)))) two
+        by false c one false two same later =
+            ap (λ (x : Bool). is_some (cond x (Some l.peer) (find (λ m. m == n) (placed number number_of number xs)))) two
+            ∙ later (sym (ap (λ (x : Bool). is_some (cond (number == n) own_size (cond x (Some (size_of l)) (find (λ (x : ℕ × ℕ). x.0 == n) (map size_of xs))))) two) ∙ is)
+
+    shelves-known : (n : ℕ) → is_some (shelf_of (opening_book sizes) n) ≡ true → Contains (numbers_of peers) n
+    shelves-known n is =
+        let known = known-placed n ls (some-mapped (find (λ (x : ℕ × ℕ). x.0 == n) sizes) (sym (ap (λ (o : Option Shelf). is_some o) (shelf-is sizes sizes n)) ∙ is)) in
+        let at = some_place (position (λ m. m == n) (placed number number_of number ls)) (some-position (λ m. m == n) (placed number number_of number ls) ∙ known) in
+        subst (λ (ns : List ℕ). Contains ns n) (sym numbers-are) (found-contained (placed number number_of number ls) n at.0 at.1)
+      where
+        some-mapped : (o : Option (ℕ × ℕ)) → is_some (option_map empty_shelf o) ≡ true → is_some o ≡ true
+        some-mapped None e = absurd cc
+        some-mapped (Some x) e = refl
+
     -- ---- the counts
-
-    outs-none : (xs : List (Link S R)) → AllByRecursion IsOpen xs → outs_count view (map linked_peer xs) ≡ 0
-    outs-none [] opened = refl
-    outs-none (l ∷ xs) opened = let none : length (out l.recv) ≡ 0 = ap length opened.0.none_out in omega (arith, none, outs-none xs opened.1)
-
-    outs-placed : (xs : List (Link S R)) → outs_count view (placed number linked_peer own xs) ≡ outs_count view (map linked_peer xs)
-    outs-placed [] = refl
-    outs-placed (l ∷ xs) =
-        let rest = outs-placed xs in
-        elim (nat_lt number l.peer) as (λ b. outs_count view (cond b (own ∷ map linked_peer (l ∷ xs)) (linked_peer l ∷ placed number linked_peer own xs)) ≡ outs_count view (map linked_peer (l ∷ xs)))
-        [ true ↦ omega arith | false ↦ omega (arith, rest) ]
 
     buffers-placed : (xs : List (Link S R)) → buffers_count view (placed number linked_peer own xs) ≡ pool + buffers_count view (map linked_peer xs)
     buffers-placed [] = refl
@@ -228,7 +302,7 @@ module _ {S R : Type 0} (size_to : S → ℕ) (free : S → List ℕ) (size_from
     sound-opening = record {
       peers = are-peers;
       places = in-places;
-      total = sym (outs-placed ls ∙ outs-none ls each);
+      shelves = shelves-known;
       room = omega (arith, buffers-placed ls, buffers-are ls each, sum_by-cons (λ (x : ℕ × ℕ). x.1) (number, pool) (map size_of ls));
       receives = record { each = tt; differ = tt; few = omega arith };
       tied = record {

@@ -3,7 +3,7 @@ use Rattle.std.proofs.Common.{◌≡◌, ℕ, ◌+◌, ◌-◌, ◌<◌, ◌≤�
 use Rattle.std.specs.Prelude.{count_by, if◌then◌else◌, is_some, not, option_map, position, slice_get, slice_index, ◌==◌, option_and_then, is_none}
 use Rattle.std.specs.List.{AllByRecursion}
 use Rattle.std.proofs.lemmas.Bool.{eqb-true}
-use Rattle.std.proofs.lemmas.List.{drop-take, get_or-take, length-take, take-take}
+use Rattle.std.proofs.lemmas.List.{append-nil, drop-take, get_or-take, length-take, take-take}
 use Rattle.byteorder.specs.Endian.{little_number}
 use Rattle.byteorder.specs.Numbers.{little_from-take}
 use Rattle.mc_base.specs.Bytes.{number_at}
@@ -21,7 +21,8 @@ use Rattle.board_model.specs.Choice.{best}
 use Rattle.domain_parts.specs.PlacedFrames.{complete_with, item_of, queued_last}
 use Rattle.board_model.specs.Journal.{taken}
 use Rattle.board_model.specs.Unnamed.{unnamed_item}
-use Rattle.buffer_book.specs.Book.{AllDiffer, Book, IsAway, Kept, content, kept_at, queued_in, slot_of, with_queued, if_queued}
+use Rattle.buffer_book.specs.Book.{AllDiffer, Book, IsAway, Kept, content, kept_in_buffer, slot_of, with_queued}
+use Rattle.buffer_book.proofs.ItemLemmas.{single}
 use Rattle.message_queue.specs.Queue.{Waiting, waiting}
 use Rattle.request_set.specs.declared.ask.Ask.TheVariants as ask
 use Rattle.request_set.specs.declared.ask.Complete.{Complete}
@@ -31,13 +32,15 @@ use Rattle.domain_parts.specs.declared.endpoints.Endpoint.{Endpoint}
 use Rattle.domain_parts.specs.Table.{Held, with_held}
 use Rattle.domain_parts.specs.Records.{Records, all_waiting, lent_slots, waiting_in, with_best_taken, with_waiting, with_waiting_at}
 use Rattle.domain_parts.specs.Out.{Out}
-use Rattle.domain_parts.specs.InBook.{channel_in, channel_of, content_in, endpoints_in, held_by, numbered_at, item_in, outcome_in, packets_in, priority_in, priority_of, request_in, requests_in, source_in, table_in}
+use Rattle.domain_parts.specs.InBook.{Whole, channel_of, endpoints_in, held_by, item_in, item_read, numbered_at, outcome_in, packets_in, priority_in, priority_of, request_in, requests_in, table_in, whole_at}
 use Rattle.domain_parts.specs.InRequests.{AreReceives, Receives, handed_by, handed_slots}
 use Rattle.domain_parts.specs.InPlaces.{AreInPlaces, AreInPlacesBut, EachInPlace, IsLentAs, KeepOthers, is_misplaced, one_if, slot_at, slots_of, times_in, times_waiting}
 use Rattle.domain_parts.specs.Verdicts.{framed_item, item_with}
 use Rattle.domain_parts.proofs.Handed.{packets-stay, requests-stay}
 use Rattle.domain_parts.proofs.Leaving.{each-lent}
-use Rattle.domain_parts.proofs.Placed.{HasMore, away-lent, enqueued, enqueued-other, is-away, kept-here, none-waits, stands-of}
+use Rattle.domain_parts.proofs.Books.{Others}
+use Rattle.domain_parts.proofs.Placed.{HasMore, IsLane, Stands, away-lent, away-none, in-place, lane-of, stands-of}
+use Rattle.domain_parts.proofs.Placing.{in-changes, in-others, in-stands, in-whole, lane-away, lane-in, lane-same}
 use Rattle.domain_parts.proofs.Receives.{complete-at, complete_now, each-complete, handed-more, ids-stay, keys-stay, length-stays, map-changed}
 use Rattle.domain_parts.proofs.Slots.{handed-has, length-more, misplaced-stay, slots, times-all, waiting-has}
 use Rattle.domain_parts.proofs.Waits.{endpoints-more, endpoints-stay, waiting-less, waiting-more}
@@ -97,12 +100,12 @@ handed-receives_so (ask.Connect channel) s at is = absurd cc
 -- a buffer of the lane from a peer is put into the book
 module _ (r : Records) (q : Requests) (b b' : Book) (p : Out) (peer : ℕ) (s : Slot) (buffer : Stored) (size len : ℕ)
     (places : AreInPlacesBut buffer.number peer r q b p) (at : s ≡ slot_at peer buffer.number)
-    (book : b' ≡ with_queued b s (queued_in buffer 24 size)) (size_fits : size ≤ 488) (fits : 24 + size ≤ length (take len buffer.bytes)) where
+    (book : b' ≡ with_queued b s (kept_in_buffer buffer 24 size)) (size_fits : size ≤ 488) (fits : 24 + size ≤ length (take len buffer.bytes)) where
   abbrev s' : Slot
   s' = slot_at peer buffer.number
 
   abbrev k : Kept
-  k = queued_in buffer 24 size
+  k = kept_in_buffer buffer 24 size
 
   abbrev ws : List Waiting
   ws = all_waiting r.endpoints
@@ -116,12 +119,21 @@ module _ (r : Records) (q : Requests) (b b' : Book) (p : Out) (peer : ℕ) (s : 
   book-is : b' ≡ with_queued b s' k
   book-is = book ∙ ap (λ (x : Slot). with_queued b x k) at
 
+  abbrev b2 : Book
+  b2 = with_queued b s' k
+
+  st : Stands (slots_of r q) (lent_slots r) b
+  st = stands-of (lent_slots r) peer p (slots_of r q) b (buffer.number ∷ []) places.each
+
+  own-lane : IsLane peer p b (buffer.number ∷ [])
+  own-lane = lane-of (lent_slots r) peer p (slots_of r q) b (buffer.number ∷ []) places.each
+
   away : IsAway b s'
-  away = is-away (lent_slots r) peer p (slots_of r q) b buffer.number [] places.each
+  away = lane-away peer p b buffer.number [] own-lane
 
   -- it stands nowhere yet
   none : times_in s' (slots_of r q) ≡ 0
-  none = none-waits (lent_slots r) peer p (slots_of r q) b buffer.number [] places.each
+  none = away-none (slots_of r q) (lent_slots r) b st s' away
 
   none-waiting : times_waiting s' ws ≡ 0
   none-waiting = omega (arith, none, times-all s' ws hs)
@@ -130,32 +142,48 @@ module _ (r : Records) (q : Requests) (b b' : Book) (p : Out) (peer : ℕ) (s : 
   none-handed = omega (arith, none, times-all s' ws hs)
 
   none-lent : times_in s' (lent_slots r) ≡ 0
-  none-lent = away-lent (lent_slots r) (slots_of r q) b s' (stands-of (lent_slots r) peer p (slots_of r q) b (buffer.number ∷ []) places.each) away
+  none-lent = away-lent (slots_of r q) (lent_slots r) b st s' away
 
-  here : kept_at (with_queued b s' k) s' ≡ Some k
-  here = kept-here (lent_slots r) peer p (slots_of r q) b buffer.number [] buffer 24 size places.each
+  here : whole_at b2 s' ≡ Some (record { item = single buffer.number; pieces = k ∷ [] })
+  here = in-whole (slots_of r q) (lent_slots r) b st s' away k
 
-  -- what is lent is lent in other buffers
-  lent-still : AllByRecursion (IsLentAs (with_queued b s' k)) r.lent
-  lent-still = each-lent b s' (Some k) r.lent none-lent places.lent
+  others : Others b b2 s'
+  others = in-others (slots_of r q) (lent_slots r) b st s' away k
+
+  short : length (content k) ≤ 488
+  short = omega (arith, length-take size (drop 24 buffer.bytes), size_fits)
+
+  -- what is lent is lent in other slots
+  lent-still : AllByRecursion (IsLentAs b2) r.lent
+  lent-still = each-lent b b2 s' others r.lent none-lent places.lent
 
   -- what was there stays
-  stay : held_by (with_queued b s' k) r q ≡ held_by b r q
+  stay : held_by b2 r q ≡ held_by b r q
   stay =
-      ap (λ (es : List state.Endpoint). record { endpoints = es; requests = requests_in (with_queued b s' k) q.standing; lent = packets_in (with_queued b s' k) r.lent }) (endpoints-stay b s' (Some k) r.endpoints none-waiting)
-      ∙ ap (λ (rs : List state.Request). record { endpoints = endpoints_in b r.endpoints; requests = rs; lent = packets_in (with_queued b s' k) r.lent }) (requests-stay b s' (Some k) q.standing none-handed)
-      ∙ ap (λ (ls : List LentPacket). record (held_by b r q) { lent = ls }) (packets-stay b s' (Some k) r.lent none-lent)
+      ap (λ (es : List state.Endpoint). record { endpoints = es; requests = requests_in b2 q.standing; lent = packets_in b2 r.lent }) (endpoints-stay b b2 s' others r.endpoints none-waiting)
+      ∙ ap (λ (rs : List state.Request). record { endpoints = endpoints_in b r.endpoints; requests = rs; lent = packets_in b2 r.lent }) (requests-stay b b2 s' others q.standing none-handed)
+      ∙ ap (λ (ls : List LentPacket). record (held_by b r q) { lent = ls }) (packets-stay b b2 s' others r.lent none-lent)
 
   -- the message of the frame, as many of whose bytes as it has stand in the buffer
-  item-is : item_with (buffer.number ∷ []) peer (source_of buffer.bytes) (priority_of buffer.bytes) (channel_of buffer.bytes) (take size (drop 24 buffer.bytes)) ≡ framed_item (buffer.number ∷ []) peer frame size
+  item-is : item_with (buffer.number ∷ []) peer (source_of buffer.bytes) (priority_of buffer.bytes) (channel_of buffer.bytes) (take size (drop 24 buffer.bytes) ++ []) ≡ framed_item (buffer.number ∷ []) peer frame size
   item-is =
-      ap (λ (n : ℕ). item_with (buffer.number ∷ []) peer n (priority_of buffer.bytes) (channel_of buffer.bytes) (take size (drop 24 buffer.bytes))) (sym (source-in_buffer buffer.bytes len size fits))
+      ap (λ (xs : List ℕ). item_with (buffer.number ∷ []) peer (source_of buffer.bytes) (priority_of buffer.bytes) (channel_of buffer.bytes) xs) (append-nil (take size (drop 24 buffer.bytes)))
+      ∙ ap (λ (n : ℕ). item_with (buffer.number ∷ []) peer n (priority_of buffer.bytes) (channel_of buffer.bytes) (take size (drop 24 buffer.bytes))) (sym (source-in_buffer buffer.bytes len size fits))
       ∙ ap (λ (n : ℕ). item_with (buffer.number ∷ []) peer (source_of frame) n (channel_of buffer.bytes) (take size (drop 24 buffer.bytes))) (sym (priority-in_buffer buffer.bytes len size fits))
       ∙ ap (λ (o : Option ℕ). item_with (buffer.number ∷ []) peer (source_of frame) (priority_of frame) o (take size (drop 24 buffer.bytes))) (sym (channel-in_buffer buffer.bytes len size fits))
       ∙ ap (λ (xs : List ℕ). item_with (buffer.number ∷ []) peer (source_of frame) (priority_of frame) (channel_of frame) xs) (sym (content-in_buffer buffer.bytes len size fits))
 
-  item-here : numbered_at (with_queued b s' k) s' ≡ framed_item (buffer.number ∷ []) peer frame size
-  item-here = ap (λ (o : Option Kept). item_with (buffer.number ∷ []) peer (source_in o) (priority_in o) (channel_in o) (content_in o)) here ∙ item-is
+  item-here : numbered_at b2 s' ≡ framed_item (buffer.number ∷ []) peer frame size
+  item-here = ap (λ (o : Option Whole). item_read o s' (priority_in o)) here ∙ item-is
+
+  -- its lane and every other, where it stands among these slots
+  own-each : (ts : List Slot) → HasMore s' (slots_of r q) ts → EachInPlace peer p ts (lent_slots r) b2 []
+  own-each ts more = in-place (lent_slots r) peer p ts b2 [] (in-stands (slots_of r q) (lent_slots r) b st s' away k ts more short) (lane-in (slots_of r q) (lent_slots r) peer p b buffer.number [] k st away own-lane)
+
+  other-each : (ts : List Slot) → HasMore s' (slots_of r q) ts → (n : ℕ) (o : Out) → (n ≡ peer → ⊥) → AreInPlaces n r q b o → EachInPlace n o ts (lent_slots r) b2 []
+  other-each ts more n o differ placed =
+      in-place (lent_slots r) n o ts b2 [] (in-stands (slots_of r q) (lent_slots r) b st s' away k ts more short)
+      (lane-same n o b b2 [] s' (buffer.number ∷ []) (Some (single buffer.number)) (in-changes (slots_of r q) (lent_slots r) b st s' away k) differ (lane-of (lent_slots r) n o (slots_of r q) b [] placed.each))
 
   -- ---- into a queue
 
@@ -175,36 +203,33 @@ module _ (r : Records) (q : Requests) (b b' : Book) (p : Out) (peer : ℕ) (s : 
     more : i < length r.endpoints → HasMore s' (slots ws ++ hs) (slots vs ++ hs)
     more lt = waiting-has w ws vs hs (λ test. waiting-more test w r.endpoints i lt)
 
-    priorities : i < length r.endpoints → count_by (is_misplaced (with_queued b s' k)) vs ≡ 0
+    priorities : i < length r.endpoints → count_by (is_misplaced b2) vs ≡ 0
     priorities lt =
-        let matches : one_if (is_misplaced (with_queued b s' k) w) ≡ 0 = ap (λ (o : Option Kept). one_if (not (priority == priority_in o))) here ∙ matched priority (priority_of buffer.bytes) priority-is in
-        omega (arith, waiting-more (is_misplaced (with_queued b s' k)) w r.endpoints i lt, misplaced-stay b s' (Some k) ws none-waiting, places.priorities, matches)
+        let matches : one_if (is_misplaced b2 w) ≡ 0 = ap (λ (o : Option Whole). one_if (not (priority == priority_in o))) here ∙ matched priority (priority_of buffer.bytes) priority-is in
+        omega (arith, waiting-more (is_misplaced b2) w r.endpoints i lt, misplaced-stay b b2 s' others ws none-waiting, places.priorities, matches)
 
     queued-moved : (n : ℕ) (o : Out) → AreInPlaces n (with_waiting_at r i w) q (with_queued b s' k) o → AreInPlaces n r' q b' o
     queued-moved n o placed = subst (λ (x : Records). AreInPlaces n x q b' o) (sym records-are) (subst (λ (x : Book). AreInPlaces n (with_waiting_at r i w) q x o) (sym book-is) placed)
 
     pub queued-places : i < length r.endpoints → AreInPlaces peer r' q b' p
     queued-places lt = queued-moved peer p (record {
-      each = enqueued (lent_slots r) peer p (slots_of r q) (slots vs ++ hs) b buffer.number [] buffer 24 size places.each size_fits (more lt);
+      each = own-each (slots vs ++ hs) (more lt);
       priorities = priorities lt;
       lent = lent-still;
     })
 
     pub queued-others : i < length r.endpoints → KeepOthers peer r q b r' q b'
     queued-others lt n o differ placed = queued-moved n o (record {
-      each = enqueued-other (lent_slots r) n o (slots_of r q) (slots vs ++ hs) b [] s' buffer 24 size differ placed.each away size_fits (more lt);
+      each = other-each (slots vs ++ hs) (more lt) n o differ placed;
       priorities = priorities lt;
       lent = lent-still;
     })
-
-    pub queued-total : i < length r.endpoints → length (slots_of r' q) ≡ length (slots_of r q) + 1
-    queued-total lt = ap (λ (x : Records). length (slots_of x q)) records-are ∙ length-more s' (slots ws ++ hs) (slots vs ++ hs) (more lt)
 
     pub queued-table : table_in b' r' q ≡ with_held (table_in b r q) (record (held_by b r q) { endpoints = changed_at (queued_last (framed_item (buffer.number ∷ []) peer frame size)) i (endpoints_in b r.endpoints) })
     queued-table =
         let b'' = with_queued b s' k in
         let es = r.endpoints in
-        let item : item_in b'' w ≡ item_with (buffer.number ∷ []) peer (source_of buffer.bytes) (priority_of buffer.bytes) (channel_of buffer.bytes) (take size (drop 24 buffer.bytes)) = ap (λ (o : Option Kept). item_with (buffer.number ∷ []) peer (source_in o) priority (channel_in o) (content_in o)) here ∙ ap (λ (n : ℕ). item_with (buffer.number ∷ []) peer (source_of buffer.bytes) n (channel_of buffer.bytes) (take size (drop 24 buffer.bytes))) priority-is in
+        let item : item_in b'' w ≡ item_with (buffer.number ∷ []) peer (source_of buffer.bytes) (priority_of buffer.bytes) (channel_of buffer.bytes) (take size (drop 24 buffer.bytes) ++ []) = ap (λ (o : Option Whole). item_read o s' priority) here ∙ ap (λ (n : ℕ). item_with (buffer.number ∷ []) peer (source_of buffer.bytes) n (channel_of buffer.bytes) (take size (drop 24 buffer.bytes) ++ [])) priority-is in
         ap (λ (x : Records). table_in b' x q) records-are
         ∙ ap (λ (x : Book). table_in x (with_waiting_at r i w) q) book-is
         ∙ ap (λ (xs : List state.Endpoint). with_held (table_in b r q) (record { endpoints = xs; requests = requests_in b'' q.standing; lent = packets_in b'' r.lent })) (endpoints-more b'' w es i)
@@ -231,20 +256,17 @@ module _ (r : Records) (q : Requests) (b b' : Book) (p : Out) (peer : ℕ) (s : 
 
     pub handed-places : AreInPlaces peer r q' b' p
     handed-places = handed-moved peer p (record {
-      each = enqueued (lent_slots r) peer p (slots_of r q) (slots ws ++ gs) b buffer.number [] buffer 24 size places.each size_fits one-handed;
-      priorities = misplaced-stay b s' (Some k) ws none-waiting ∙ places.priorities;
+      each = own-each (slots ws ++ gs) one-handed;
+      priorities = misplaced-stay b b2 s' others ws none-waiting ∙ places.priorities;
       lent = lent-still;
     })
 
     pub handed-others : KeepOthers peer r q b r q' b'
     handed-others n o differ placed = handed-moved n o (record {
-      each = enqueued-other (lent_slots r) n o (slots_of r q) (slots ws ++ gs) b [] s' buffer 24 size differ placed.each away size_fits one-handed;
-      priorities = misplaced-stay b s' (Some k) ws none-waiting ∙ places.priorities;
+      each = other-each (slots ws ++ gs) one-handed n o differ placed;
+      priorities = misplaced-stay b b2 s' others ws none-waiting ∙ places.priorities;
       lent = lent-still;
     })
-
-    pub handed-total : length (slots_of r q') ≡ length (slots_of r q) + 1
-    handed-total = ap (λ (x : Requests). length (slots_of r x)) requests-are ∙ length-more s' (slots ws ++ hs) (slots ws ++ gs) one-handed
 
     pub handed-table : table_in b' r q' ≡ with_held (table_in b r q) (record (held_by b r q) { requests = changed (complete_with (framed_item (buffer.number ∷ []) peer frame size)) (position (is_id id) q.standing) (requests_in b q.standing) })
     handed-table =
@@ -289,10 +311,10 @@ module _ (r : Records) (q : Requests) (b : Book) (i : ℕ) (w : Waiting) (is : b
   received-fewer = let l = waiting-less (is_misplaced b) w r.endpoints i is in omega (arith, l)
 
   module _ (number : ℕ) (p : Out) (places : AreInPlaces number r q b p) where
-    pub received-priority : w.priority ≡ priority_in (kept_at b w.slot)
+    pub received-priority : w.priority ≡ priority_in (whole_at b w.slot)
     received-priority =
         let none : one_if (is_misplaced b w) ≡ 0 = let l = waiting-less (is_misplaced b) w r.endpoints i is in let all = places.priorities in omega (arith, l, all) in
-        eqb-true w.priority (priority_in (kept_at b w.slot)) (matches (w.priority == priority_in (kept_at b w.slot)) none)
+        eqb-true w.priority (priority_in (whole_at b w.slot)) (matches (w.priority == priority_in (whole_at b w.slot)) none)
       where
         matches : (x : Bool) → one_if (not x) ≡ 0 → x ≡ true
         matches true e = refl
@@ -328,12 +350,3 @@ same-held r r' q q' b number p lends waits hands places = record {
   priorities = ap (count_by (is_misplaced b)) waits ∙ places.priorities;
   lent = subst (AllByRecursion (IsLentAs b)) (sym lends) places.lent;
 }
-
--- the content that is told
-pub content-of : (o : Option Kept) (xs : List ℕ) → Some xs ≡ option_map content (option_and_then if_queued o) → content_in o ≡ xs
-content-of None xs is = absurd cc
-content-of (Some k) xs is = go (is_none k.lent) is
-  where
-    go : (b : Bool) → Some xs ≡ option_map content (if b then Some k else None) → content k ≡ xs
-    go true e = cc
-    go false e = absurd cc

@@ -1,6 +1,6 @@
 -- Calls that receive messages or end requests, after their turns: what they leave, and what is kept.
 use Rattle.std.proofs.Common.{◌≡◌, ℕ, ◌+◌, ◌<◌, ◌≤◌, Bool, true, false, cond, List, [], ◌∷◌, ◌++◌, length, drop, Option, Some, None, sym, ap, ◌∙◌, arith, refl}
-use Rattle.std.specs.Prelude.{is_none, option_and_then, option_map, slice_get, ◌%◌, ◌^◌}
+use Rattle.std.specs.Prelude.{option_and_then, option_map, slice_get, ◌%◌, ◌^◌}
 use Rattle.std.specs.List.{AllByRecursion}
 use Rattle.std.proofs.lemmas.List.{length-take, map_push}
 use Rattle.mc_base.specs.declared.name.Local.{Local}
@@ -12,8 +12,7 @@ use Rattle.board_model.specs.State.{DomainState, Item, Outcome, has_item, messag
 use Rattle.board_model.specs.Choice.{best}
 use Rattle.board_model.specs.Answer.{local}
 use Rattle.domain_parts.specs.PlacedCalls.{best_queued, received, with_received, with_request}
-use Rattle.buffer_book.specs.Book.{Book, IsQueued, Kept, content, if_queued, queued_at, with_away}
-use Rattle.buffer_book.specs.Book as book
+use Rattle.buffer_book.specs.Book.{Book, IsQueued}
 use Rattle.endpoint_table.specs.Table as endpoint_table
 use Rattle.message_queue.specs.Queue.{Waiting, waiting}
 use Rattle.request_set.specs.declared.ask.Ask.TheVariants as ask
@@ -22,62 +21,51 @@ use Rattle.request_set.specs.declared.ask.Complete.TheVariants as complete
 use Rattle.request_set.specs.Requests.{Requests, without_request}
 use Rattle.domain_parts.specs.LaneSeen.{LaneSeen}
 use Rattle.domain_parts.specs.declared.peer.Peer.{Peer}
-use Rattle.domain_parts.specs.GivingBack.{GivesBack, IsOutAt}
-use Rattle.domain_parts.specs.InBook.{endpoints_in, numbered_at, item_in, outcome_in, request_in, requests_in, packets_in}
-use Rattle.domain_parts.specs.InPlaces.{IsShort, slots_of, times_in}
+use Rattle.domain_parts.specs.GivingBack.{AreOutAt, GivesBack}
+use Rattle.domain_parts.specs.InBook.{content_in, endpoints_in, frames_at, item_in, numbered_at, outcome_in, packets_in, request_in, requests_in, whole_at}
+use Rattle.domain_parts.specs.InPlaces.{slots_of, times_in}
 use Rattle.domain_parts.specs.InRequests.{AreReceives, handed_slots}
 use Rattle.domain_parts.specs.LaneMoves.{LaneMove}
 use Rattle.domain_parts.specs.Peers.{peers_in, state_in}
 use Rattle.domain_parts.specs.Records.{Records, all_waiting, waiting_in, with_best_taken_at}
 use Rattle.domain_parts.specs.Sound.{AreSound, out_at}
-use Rattle.domain_parts.specs.Steps.{with_last}
+use Rattle.domain_parts.specs.Steps.{with_last, without_frames}
 use Rattle.domain_parts.proofs.Beginning.{last-more, new_standing, pending-same}
 use Rattle.domain_parts.proofs.Ending.{left-receives}
-use Rattle.domain_parts.proofs.GivingLemmas.{All-at, InPlacesAt, best-same, given-peers, same-endpoints, sound-given, sound-moved, stands-out, stands-queued}
+use Rattle.domain_parts.proofs.GivingLemmas.{All-at, InPlacesAt, all-stand, best-same, given-peers, leaves-out, same-endpoints, some-lane, sound-given, sound-moved, stands-queued}
+use Rattle.domain_parts.proofs.Books.{without-lends}
 use Rattle.domain_parts.proofs.Leaving.{left-endpoints, left-packets, left-requests}
 use Rattle.domain_parts.proofs.Placed.{HasMore, HaveSame, times-here}
 use Rattle.domain_parts.proofs.Queuing.{ended-more, received-fewer, received-more, received-priority}
 use Rattle.domain_parts.proofs.Slots.{handed-has, handed-same}
 use Rattle.domain_parts.proofs.Waits.{best-there, endpoints-less}
 
--- ---- a buffer is given back
+-- ---- an item is given back
 
-module _ {L : Type 0} (M : L → List LaneMove → L → Type 0) (m-none : (l : L) → M l [] l) (v : L → LaneSeen) (b : Book) (r r' : Records) (q q' : Requests) (t : endpoint_table.Table) (s : Slot) (ps ps' : List (Peer L)) (gives : GivesBack M v s ps ps') where
+module _ {L : Type 0} (M : L → List LaneMove → L → Type 0) (m-none : (l : L) → M l [] l) (v : L → LaneSeen) (b : Book) (r r' : Records) (q q' : Requests) (t : endpoint_table.Table) (s : Slot) (ps ps' : List (Peer L)) (gives : GivesBack M v s.peer (frames_at b s) ps ps') where
   abbrev before : DomainState
   before = state_in v b r q t ps
 
-  -- what is held is read as before, though a buffer is no more in the book
-  pub given-state : HasMore s (slots_of r' q') (slots_of r q) → AllByRecursion (InPlacesAt v b r q) ps → q'.given ≡ q.given → r'.channels ≡ r.channels → r'.lent ≡ r.lent → state_in v (with_away b s) r' q' t ps' ≡ record before { endpoints = endpoints_in b r'.endpoints; requests = requests_in b q'.standing }
+  abbrev left_book : Book
+  left_book = without_frames b s None (frames_at b s)
+
+  -- what is held is read as before, though an item is no more in the book
+  pub given-state : HasMore s (slots_of r' q') (slots_of r q) → AllByRecursion (InPlacesAt v b r q) ps → q'.given ≡ q.given → r'.channels ≡ r.channels → r'.lent ≡ r.lent → state_in v left_book r' q' t ps' ≡ record before { endpoints = endpoints_in b r'.endpoints; requests = requests_in b q'.standing }
   given-state more places given numbered lends =
       let p = gives.peer in
       let here = All-at (InPlacesAt v b r q) ps gives.place p places gives.there in
       let made : List state.Endpoint → List state.Peer → List state.Request → ℕ → DomainState = λ es xs rs n. record before { endpoints = es; peers = xs; requests = rs; requests_given = n } in
-      ap (λ (n : ℕ). record (state_in v (with_away b s) r' q' t ps') { channels_given = n }) numbered
-      ∙ ap (λ (xs : List LentPacket). record (state_in v (with_away b s) r' q' t ps') { channels_given = r.channels; lent = xs }) (left-packets r r' q q' b s more p.number (out_at v p) here lends ∙ ap (packets_in b) lends)
-      ∙ ap (λ (es : List state.Endpoint). made es (peers_in v t ps') (requests_in (with_away b s) q'.standing) q'.given) (left-endpoints r r' q q' b s more p.number (out_at v p) here)
-      ∙ ap (λ (xs : List state.Peer). made (endpoints_in b r'.endpoints) xs (requests_in (with_away b s) q'.standing) q'.given) (given-peers M v s ps ps' gives t)
+      ap (λ (n : ℕ). record (state_in v left_book r' q' t ps') { packets_lent = n }) (without-lends b s None (frames_at b s))
+      ∙ ap (λ (n : ℕ). record (state_in v left_book r' q' t ps') { channels_given = n; packets_lent = b.lends }) numbered
+      ∙ ap (λ (xs : List LentPacket). record (state_in v left_book r' q' t ps') { channels_given = r.channels; lent = xs; packets_lent = b.lends }) (left-packets r r' q q' b s more p.number (out_at v p) here lends ∙ ap (packets_in b) lends)
+      ∙ ap (λ (es : List state.Endpoint). made es (peers_in v t ps') (requests_in left_book q'.standing) q'.given) (left-endpoints r r' q q' b s more p.number (out_at v p) here)
+      ∙ ap (λ (xs : List state.Peer). made (endpoints_in b r'.endpoints) xs (requests_in left_book q'.standing) q'.given) (given-peers M v s.peer (frames_at b s) ps ps' gives t)
       ∙ ap (λ (rs : List state.Request). made (endpoints_in b r'.endpoints) (peers_in v t ps) rs q'.given) (left-requests r r' q q' b s more p.number (out_at v p) here)
       ∙ ap (λ (n : ℕ). made (endpoints_in b r'.endpoints) (peers_in v t ps) (requests_in b q'.standing) n) given
 
--- ---- what lies in a buffer that is out
-
-short-content : (o : Option (Option Kept)) (xs : List ℕ) → IsShort (option_and_then (λ p. p) o) → Some xs ≡ option_map content (option_and_then if_queued (option_and_then (λ p. p) o)) → length xs ≤ 488
-short-content None xs short is = absurd cc
-short-content (Some None) xs short is = absurd cc
-short-content (Some (Some k)) xs short is = go (is_none k.lent) is
-  where
-    go : (x : Bool) → Some xs ≡ option_map content (cond x (Some k) None) → length xs ≤ 488
-    go false e = absurd cc
-    go true e =
-        let same : xs ≡ content k = cc in
-        let long = ap length same in
-        let most = length-take k.size (drop k.start k.buffer.bytes) in
-        omega (arith, long, most, short)
-
-pub content-fits : {L : Type 0} (v : L → LaneSeen) (b : Book) (r : Records) (q : Requests) (ps : List (Peer L)) (s : Slot) (xs : List ℕ) → AllByRecursion (InPlacesAt v b r q) ps → IsOutAt v s ps → Some xs ≡ option_map content (queued_at b s) → length xs ≤ 488
-content-fits v b r q ps s xs places out is =
-    let here = All-at (InPlacesAt v b r q) ps out.place out.peer places out.there in
-    short-content (book.place_at b s) xs (here.each.short s) is
+-- an item is short
+pub content-fits : {L : Type 0} (v : L → LaneSeen) (b : Book) (r : Records) (q : Requests) (t : endpoint_table.Table) (ps : List (Peer L)) → AreSound v b r q t ps → (s : Slot) → length (content_in (whole_at b s)) ≤ 488
+content-fits v b r q t ps sound s = (all-stand v b r q t ps sound).short s
 
 -- ---- the best message at an endpoint
 
@@ -86,17 +74,16 @@ module _ {L : Type 0} (v : L → LaneSeen) (b : Book) (r : Records) (q : Request
   stands = let one = times-here w.slot (slots_of (with_best_taken_at r i) q) (slots_of r q) (received-more r q b i w is) in omega (arith, one)
 
   pub best-queued : IsQueued b w.slot
-  best-queued = stands-queued v b r q ps sound.peers.rising sound.places sound.total w.slot stands
+  best-queued = stands-queued v b r q t ps sound w.slot stands
 
-  pub best-out : IsOutAt v w.slot ps
-  best-out = stands-out v b r q ps sound.peers.rising sound.places sound.total w.slot stands
+  pub best-out : AreOutAt v w.slot.peer (frames_at b w.slot) ps
+  best-out = leaves-out v b r q t ps sound (with_best_taken_at r i) q w.slot refl (received-more r q b i w is) (received-fewer r q b i w is)
 
   -- its frame says its priority
   pub best-item : numbered_at b w.slot ≡ item_in b w
   best-item =
-      let out = best-out in
-      let here = All-at (InPlacesAt v b r q) ps out.place out.peer sound.places out.there in
-      ap (λ (n : ℕ). item_in b (waiting w.slot n)) (sym (received-priority r q b i w is out.peer.number (out_at v out.peer) here))
+      let lane = some-lane v b r q t ps sound in
+      ap (λ (n : ℕ). item_in b (waiting w.slot n)) (sym (received-priority r q b i w is lane.0.number (out_at v lane.0) lane.1))
 
   module _ (at : Local) (there : Some i ≡ place_at (state_in v b r q t ps) at) where
     abbrev now : DomainState
@@ -113,7 +100,7 @@ module _ {L : Type 0} (v : L → LaneSeen) (b : Book) (r : Records) (q : Request
 
   -- ---- it is given to a caller
 
-  pub taken-sound : (M : L → List LaneMove → L → Type 0) (ps' : List (Peer L)) → GivesBack M v w.slot ps ps' → AreSound v (with_away b w.slot) (with_best_taken_at r i) q t ps'
+  pub taken-sound : (M : L → List LaneMove → L → Type 0) (ps' : List (Peer L)) → GivesBack M v w.slot.peer (frames_at b w.slot) ps ps' → AreSound v (without_frames b w.slot None (frames_at b w.slot)) (with_best_taken_at r i) q t ps'
   taken-sound M ps' gives = sound-given M v b r (with_best_taken_at r i) q q t w.slot ps ps' gives (best-same r i) refl (received-more r q b i w is) (received-fewer r q b i w is) sound.receives sound
 
   -- ---- it goes to a request that is new
@@ -175,11 +162,11 @@ module _ {L : Type 0} (v : L → LaneSeen) (b : Book) (r : Records) (q : Request
     held-stands = let one = times-here slot (slots_of r left) (slots_of r q) (ended-more r q left b slot fewer) in omega (arith, one)
 
     pub held-queued : IsQueued b slot
-    held-queued = stands-queued v b r q ps sound.peers.rising sound.places sound.total slot held-stands
+    held-queued = stands-queued v b r q t ps sound slot held-stands
 
-    pub held-out : IsOutAt v slot ps
-    held-out = stands-out v b r q ps sound.peers.rising sound.places sound.total slot held-stands
+    pub held-out : AreOutAt v slot.peer (frames_at b slot) ps
+    held-out = leaves-out v b r q t ps sound r left slot refl (ended-more r q left b slot fewer) (omega arith)
 
-    module _ (M : L → List LaneMove → L → Type 0) (ps' : List (Peer L)) (gives : GivesBack M v slot ps ps') where
-      pub tested-sound : AreSound v (with_away b slot) r left t ps'
+    module _ (M : L → List LaneMove → L → Type 0) (ps' : List (Peer L)) (gives : GivesBack M v slot.peer (frames_at b slot) ps ps') where
+      pub tested-sound : AreSound v (without_frames b slot None (frames_at b slot)) r left t ps'
       tested-sound = sound-given M v b r r q left t slot ps ps' gives (same-endpoints r) refl (ended-more r q left b slot fewer) (omega arith) (left-receives q id sound.receives) sound

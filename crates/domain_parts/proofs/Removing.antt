@@ -12,14 +12,14 @@ use Rattle.board_model.specs.DomainCall.{DomainCall, delete_at}
 use Rattle.board_model.specs.State as state
 use Rattle.board_model.specs.State.{DomainState, Item, address_at, endpoint_at, is_at, queue_at, queue_in}
 use Rattle.board_model.proofs.ListsCounts.{count-append, count-cons}
-use Rattle.buffer_book.specs.Book.{Book, kept_at}
+use Rattle.buffer_book.specs.Book.{Book}
 use Rattle.message_queue.specs.Queue.{Waiting}
 use Rattle.request_set.specs.Requests.{Requests}
 use Rattle.domain_parts.specs.LaneSeen.{LaneSeen}
 use Rattle.domain_parts.specs.declared.endpoints.Endpoint.{Endpoint}
 use Rattle.domain_parts.specs.declared.peer.Peer.{Peer}
 use Rattle.domain_parts.specs.AllMoved.{numbers_of}
-use Rattle.domain_parts.specs.InBook.{channel_in, content_in, endpoint_in, endpoints_in, numbered_at, item_in, priority_in, source_in}
+use Rattle.domain_parts.specs.InBook.{endpoint_in, endpoints_in, item_in, item_read, numbered_at, priority_in, whole_at}
 use Rattle.domain_parts.specs.InPlaces.{is_misplaced, one_if}
 use Rattle.domain_parts.specs.Peers.{state_in}
 use Rattle.domain_parts.specs.Records.{Records, all_waiting, slots_at, waiting_in, without_record_at}
@@ -44,12 +44,12 @@ items-at b (w ∷ ws) none =
     let sum = count-cons (is_misplaced b) w ws in
     let here : one_if (is_misplaced b w) ≡ 0 = omega (arith, sum, none) in
     let rest : count_by (is_misplaced b) ws ≡ 0 = omega (arith, sum, none) in
-    let o = kept_at b w.slot in
+    let o = whole_at b w.slot in
     let same : w.priority ≡ priority_in o = eqb-true w.priority (priority_in o) (is-true (w.priority == priority_in o) (no-one (is_misplaced b w) here)) in
-    ap (λ (n : ℕ). record { peer = w.slot.peer; source = source_in o; priority = n; channel = channel_in o; content = content_in o; frames = w.slot.buffer ∷ [] } ∷ map (numbered_at b) (slots ws)) (sym same)
+    ap (λ (n : ℕ). item_read o w.slot n ∷ map (numbered_at b) (slots ws)) (sym same)
     ∙ ap (λ (is : List Item). item_in b w ∷ is) (items-at b ws rest)
 
-count-within : (test : Waiting → Bool) (es : List Endpoint) (i : ℕ) → count_by test (waiting_in (slice_get es i)) ≤ count_by test (all_waiting es)
+pub count-within : (test : Waiting → Bool) (es : List Endpoint) (i : ℕ) → count_by test (waiting_in (slice_get es i)) ≤ count_by test (all_waiting es)
 count-within test [] i = omega arith
 count-within test (e ∷ es) zero = omega (arith, count-append test e.queue.waiting (all_waiting es))
 count-within test (e ∷ es) (suc i) = omega (arith, count-within test es i, count-append test e.queue.waiting (all_waiting es))

@@ -31,10 +31,6 @@ pub record Outline : Type 0 where
 abbrev pub outline : {L : Type 0} → (L → LaneSeen) → Peer L → Outline
 outline v p = record { number = p.number; size_to = (v p.ends).size_to; size_from = (v p.ends).size_from; out = (v p.ends).out }
 
-abbrev outs : List Outline → ℕ
-outs [] = 0
-outs (o ∷ os) = length o.out + outs os
-
 abbrev buffers : List Outline → ℕ
 buffers [] = 0
 buffers (o ∷ os) = o.size_from + buffers os
@@ -46,10 +42,6 @@ module _ {L : Type 0} (v : L → LaneSeen) where
   numbers-are : (ps : List (Peer L)) → numbers_of ps ≡ map (λ (o : Outline). o.number) (map (outline v) ps)
   numbers-are [] = refl
   numbers-are (p ∷ ps) = ap (λ (ns : List ℕ). p.number ∷ ns) (numbers-are ps)
-
-  outs-are : (ps : List (Peer L)) → outs_count v ps ≡ outs (map (outline v) ps)
-  outs-are [] = refl
-  outs-are (p ∷ ps) = ap (λ (n : ℕ). length (v p.ends).out + n) (outs-are ps)
 
   buffers-are : (ps : List (Peer L)) → buffers_count v ps ≡ buffers (map (outline v) ps)
   buffers-are [] = refl
@@ -63,7 +55,6 @@ module _ {L K : Type 0} (v : L → LaneSeen) (w : K → LaneSeen) where
   pub same-sound : (b : Book) (r : Records) (q : Requests) (t : endpoint_table.Table) (ps : List (Peer L)) (qs : List (Peer K)) → map (outline w) qs ≡ map (outline v) ps → AreSound v b r q t ps → AreSound w b r q t qs
   same-sound b r q t ps qs same sound =
       let numbers : numbers_of ps ≡ numbers_of qs = numbers-are v ps ∙ ap (λ (os : List Outline). map (λ (o : Outline). o.number) os) (sym same) ∙ sym (numbers-are w qs) in
-      let outs-same : outs_count v ps ≡ outs_count w qs = outs-are v ps ∙ ap outs (sym same) ∙ sym (outs-are w qs) in
       let buffers-same : buffers_count v ps ≡ buffers_count w qs = buffers-are v ps ∙ ap buffers (sym same) ∙ sym (buffers-are w qs) in
       let fits = All-from (IsSized v) (λ p. Fits (outline v p)) (λ p sized. (sized.same, sized.fits)) ps sound.peers.sizes in
       record {
@@ -74,7 +65,7 @@ module _ {L K : Type 0} (v : L → LaneSeen) (w : K → LaneSeen) where
           sizes = All-from (λ p. Fits (outline w p)) (IsSized w) (λ p fit. record { same = fit.0; fits = fit.1 }) qs (All-same Fits ps qs same fits);
         };
         places = All-same (λ o. AreInPlaces o.number r q b (out_of o.size_from o.out)) ps qs same sound.places;
-        total = sound.total ∙ outs-same;
+        shelves = λ n is. subst (λ (ns : List ℕ). Contains ns n) numbers (sound.shelves n is);
         room = subst (λ (n : ℕ). n ≤ r.room) buffers-same sound.room;
         receives = sound.receives;
         tied = subst (AreTied r t) numbers sound.tied;

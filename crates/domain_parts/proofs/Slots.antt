@@ -5,11 +5,11 @@ use Rattle.std.proofs.lemmas.List.{length-map}
 use Rattle.mc_base.specs.declared.request.Slot.{Slot}
 use Rattle.board_model.proofs.ListsCounts.{count-append, count-cons, count-every}
 use Rattle.board_model.proofs.MessageVisitLines.{count-map}
-use Rattle.buffer_book.specs.Book.{Book, Kept, with_place}
+use Rattle.buffer_book.specs.Book.{Book}
 use Rattle.message_queue.specs.Queue.{Waiting}
-use Rattle.domain_parts.specs.InBook.{priority_in}
+use Rattle.domain_parts.specs.InBook.{Whole, priority_in}
 use Rattle.domain_parts.specs.InPlaces.{is_misplaced, is_same, one_if, times_in, times_waiting}
-use Rattle.domain_parts.proofs.Books.{differ-back, kept-there}
+use Rattle.domain_parts.proofs.Books.{Others, differ-back}
 use Rattle.domain_parts.proofs.Placed.{HasMore, HaveSame, no-one}
 
 abbrev pub slots : List Waiting → List Slot
@@ -42,17 +42,16 @@ length-more s ss ts more = let m = more (λ (x : Slot). true) in omega (arith, m
 pub length-same : (ss ts : List Slot) → HaveSame ss ts → length ts ≡ length ss
 length-same ss ts same = sym (count-every ts) ∙ same (λ (x : Slot). true) ∙ count-every ss
 
--- what waits in other buffers than the one that changed has the priority that it had
-pub misplaced-stay : (b : Book) (s : Slot) (k : Option Kept) (ws : List Waiting) → times_waiting s ws ≡ 0 → count_by (is_misplaced (with_place b s k)) ws ≡ count_by (is_misplaced b) ws
-misplaced-stay b s k [] none = refl
-misplaced-stay b s k (w ∷ ws) none =
-    let b' = with_place b s k in
+-- what waits in other slots than the one that changed has the priority that it had
+pub misplaced-stay : (b b' : Book) (s : Slot) → Others b b' s → (ws : List Waiting) → times_waiting s ws ≡ 0 → count_by (is_misplaced b') ws ≡ count_by (is_misplaced b) ws
+misplaced-stay b b' s others [] none = refl
+misplaced-stay b b' s others (w ∷ ws) none =
     let sum = count-cons (λ (x : Waiting). is_same x.slot s) w ws in
     let here : one_if (is_same w.slot s) ≡ 0 = omega (arith, sum, none) in
     let rest : times_waiting s ws ≡ 0 = omega (arith, sum, none) in
     let differ = differ-back w.slot s (no-one (is_same w.slot s) here) in
-    let same : is_misplaced b' w ≡ is_misplaced b w = ap (λ (o : Option Kept). not (w.priority == priority_in o)) (kept-there b s k w.slot differ) in
+    let same : is_misplaced b' w ≡ is_misplaced b w = ap (λ (o : Option Whole). not (w.priority == priority_in o)) (others w.slot differ) in
     count-cons (is_misplaced b') w ws
     ∙ ap (λ (x : Bool). one_if x + count_by (is_misplaced b') ws) same
-    ∙ ap (λ (n : ℕ). one_if (is_misplaced b w) + n) (misplaced-stay b s k ws rest)
+    ∙ ap (λ (n : ℕ). one_if (is_misplaced b w) + n) (misplaced-stay b b' s others ws rest)
     ∙ sym (count-cons (is_misplaced b) w ws)

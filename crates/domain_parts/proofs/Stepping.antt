@@ -1,6 +1,6 @@
 -- One step of the inside: at the peers, and in the parts.
 use Rattle.std.proofs.Common.{◌≡◌, ℕ, zero, suc, ◌<◌, Bool, true, false, cond, List, [], ◌∷◌, ◌++◌, map, Option, Some, None, refl, sym, ap, ◌∙◌, subst, arith, eq-eqb, ne_eqb}
-use Rattle.std.specs.Prelude.{Contains, slice_get, slice_set, option_map, ◌==◌}
+use Rattle.std.specs.Prelude.{slice_get, slice_set, option_map, ◌==◌}
 use Rattle.std.specs.List.{AllByRecursion}
 use Rattle.std.proofs.lemmas.Option.{slice_get-map}
 use Rattle.mc_base.specs.declared.request.Slot.{Slot}
@@ -9,12 +9,11 @@ use Rattle.mc_base.specs.declared.request.RequestId.{RequestId}
 use Rattle.board_model.specs.DomainCall.{DomainCall}
 use Rattle.board_model.specs.Journal.{PlainAnswer, refuses}
 use Rattle.board_model.specs.Answer.{refusal, success}
-use Rattle.lane_end.specs.ReceiveMoves.{Gave}
 use Rattle.domain_parts.specs.LaneSeen.{LaneSeen, after_moves}
 use Rattle.domain_parts.specs.declared.peer.Peer.{Peer}
-use Rattle.domain_parts.specs.AllMoved.{AllMoved, ends_of, numbers_of}
-use Rattle.domain_parts.specs.GivingBack.{GivesBack, IsOutAt}
-use Rattle.domain_parts.specs.LaneMoves.{LaneMove, receiver}
+use Rattle.domain_parts.specs.AllMoved.{AllMoved, ends_of, giving, numbers_of}
+use Rattle.domain_parts.specs.GivingBack.{AreOut, AreOutAt, GivesBack}
+use Rattle.domain_parts.specs.LaneMoves.{LaneMove}
 use Rattle.board_model.specs.State as state
 use Rattle.buffer_book.specs.Book.{Book}
 use Rattle.endpoint_table.specs.Table as endpoint_table
@@ -104,12 +103,12 @@ module _ {L : Type 0} (v : L → LaneSeen) where
   sound-unseen b r q t ps = same-sound plain v b r q t (peers_seen v ps) ps (sym (outlines ps))
 
   -- what is out where it is seen is out
-  pub out-unseen : (s : Slot) (ps : List (Peer L)) → IsOutAt plain s (peers_seen v ps) → IsOutAt v s ps
-  out-unseen s ps out =
-      let first = position-map (peer_seen v) (λ p. p.number == s.peer) ps ∙ out.first in
-      let at = peer-at ps s.peer out.place (sym first) in
+  pub out-unseen : (number : ℕ) (fs : List ℕ) (ps : List (Peer L)) → AreOutAt plain number fs (peers_seen v ps) → AreOutAt v number fs ps
+  out-unseen number fs ps out =
+      let first = position-map (peer_seen v) (λ p. p.number == number) ps ∙ out.first in
+      let at = peer-at ps number out.place (sym first) in
       let is : out.peer ≡ peer_seen v at.0 = let e = sym out.there ∙ slice_get-map (peer_seen v) ps out.place ∙ ap (option_map (peer_seen v)) at.1 in cc in
-      record { place = out.place; peer = at.0; first = first; there = at.1; is = at.2; out = subst (λ (x : Peer LaneSeen). Contains x.ends.out s.buffer) is out.out }
+      record { place = out.place; peer = at.0; first = first; there = at.1; is = at.2; out = subst (λ (x : Peer LaneSeen). AreOut x.ends.out fs) is out.out }
 
   -- one peer's ends were moved
   module _ (M : L → List LaneMove → L → Type 0) (m-none : (l : L) → M l [] l) (d : ℕ) (ms : List LaneMove) where
@@ -135,20 +134,20 @@ module _ {L : Type 0} (v : L → LaneSeen) where
         let seen = slice_get-map (peer_seen v) ps i ∙ ap (option_map (peer_seen v)) there in
         let above = number-above x.number (peers_seen v ps) i (peer_seen v p) rising.0 seen in
         (subst (λ (b : Bool). M x.ends (cond b ms []) x.ends) (sym (ne_eqb d x.number (λ e. omega (arith, above, is, e)))) (m-none x.ends), one-moved ps i p e rising.1 there is moved)
-    -- a buffer was given back
 
-  module _ (M : L → List LaneMove → L → Type 0) (m-none : (l : L) → M l [] l) (s : Slot) (ps ps' : List (Peer L)) (rising : AreRising (numbers_of (peers_seen v ps))) (gives : GivesBack M v s ps ps') where
+  -- buffers were given back
+  module _ (M : L → List LaneMove → L → Type 0) (m-none : (l : L) → M l [] l) (number : ℕ) (fs : List ℕ) (ps ps' : List (Peer L)) (rising : AreRising (numbers_of (peers_seen v ps))) (gives : GivesBack M v number fs ps ps') where
     abbrev back : List LaneMove
-    back = receiver (Gave s.buffer) ∷ []
+    back = giving fs
 
-    pub given-seen : peers_seen v ps' ≡ map (moved_peer (at_peer s.peer back)) (peers_seen v ps)
-    given-seen = ap (peers_seen v) gives.after ∙ one-seen M m-none s.peer back ps gives.place gives.peer gives.ends rising gives.there gives.is gives.seen
+    pub given-seen : peers_seen v ps' ≡ map (moved_peer (at_peer number back)) (peers_seen v ps)
+    given-seen = ap (peers_seen v) gives.after ∙ one-seen M m-none number back ps gives.place gives.peer gives.ends rising gives.there gives.is gives.seen
 
-    pub given-moved : AllMoved M (ends_of ps) (map (at_peer s.peer back) (numbers_of (peers_seen v ps))) (ends_of ps')
-    given-moved = subst (λ (xs : List (Peer L)). AllMoved M (ends_of ps) (map (at_peer s.peer back) (numbers_of (peers_seen v ps))) (ends_of xs)) (sym gives.after) (one-moved M m-none s.peer back ps gives.place gives.peer gives.ends rising gives.there gives.is gives.moved)
+    pub given-moved : AllMoved M (ends_of ps) (map (at_peer number back) (numbers_of (peers_seen v ps))) (ends_of ps')
+    given-moved = subst (λ (xs : List (Peer L)). AllMoved M (ends_of ps) (map (at_peer number back) (numbers_of (peers_seen v ps))) (ends_of xs)) (sym gives.after) (one-moved M m-none number back ps gives.place gives.peer gives.ends rising gives.there gives.is gives.moved)
 
-    -- a step that took its slot out of the book and the records
-    module _ (b b' : Book) (r r' : Records) (q : Requests) (t : endpoint_table.Table) (c : Step) (books : b' ≡ book_after c b) (records : r' ≡ records_after c r) (requests : q ≡ requests_after c q) (table : t ≡ table_after c t) (moves : step_moves c ≡ at_peer s.peer back) (moved : (xs : List (Peer LaneSeen)) → peers_after c xs ≡ map (moved_peer (step_moves c)) xs) where
+    -- a step that took its item out of the book and the records
+    module _ (b b' : Book) (r r' : Records) (q : Requests) (t : endpoint_table.Table) (c : Step) (books : b' ≡ book_after c b) (records : r' ≡ records_after c r) (requests : q ≡ requests_after c q) (table : t ≡ table_after c t) (moves : step_moves c ≡ at_peer number back) (moved : (xs : List (Peer LaneSeen)) → peers_after c xs ≡ map (moved_peer (step_moves c)) xs) where
       pub dropped-parts : parts_in v b' r' q t ps' ≡ done c (parts_in v b r q t ps)
       dropped-parts = let peers = given-seen ∙ ap (λ (m : ℕ → List LaneMove). map (moved_peer m) (peers_seen v ps)) (sym moves) ∙ sym (moved (peers_seen v ps)) in cc
 
@@ -218,21 +217,21 @@ pub quiet-moved : {L : Type 0} (M : L → List LaneMove → L → Type 0) → ((
 quiet-moved M none v [] = tt
 quiet-moved M none v (p ∷ ps) = (none p.ends, quiet-moved M none v ps)
 
--- ---- a buffer given back, where it is seen
+-- ---- buffers given back, where it is seen
 
 abbrev pub Any : LaneSeen → List LaneMove → LaneSeen → Type 0
 Any a ms b = Unit {0}
 
-pub gives-seen : (s : Slot) (ps : List (Peer LaneSeen)) → AreRising (numbers_of ps) → IsOutAt plain s ps → GivesBack Any plain s ps (map (moved_peer (at_peer s.peer (receiver (Gave s.buffer) ∷ []))) ps)
-gives-seen s ps rising out =
-    let ms = receiver (Gave s.buffer) ∷ [] in
+pub gives-seen : (number : ℕ) (fs : List ℕ) (ps : List (Peer LaneSeen)) → AreRising (numbers_of ps) → AreOutAt plain number fs ps → GivesBack Any plain number fs ps (map (moved_peer (at_peer number (giving fs))) ps)
+gives-seen number fs ps rising out =
+    let ms = giving fs in
     record {
       place = out.place;
       peer = out.peer;
       ends = after_moves ms out.peer.ends;
       there = out.there;
       is = out.is;
-      after = sym (set-is-map s.peer ms ps out.place out.peer rising out.there out.is);
+      after = sym (set-is-map number ms ps out.place out.peer rising out.there out.is);
       moved = tt;
       seen = refl;
     }

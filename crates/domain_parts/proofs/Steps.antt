@@ -14,8 +14,8 @@ use Rattle.board_model.specs.State.{free_to, is_at, place_at, queue_at, queue_in
 use Rattle.board_model.specs.DomainCall.{receive_at}
 use Rattle.board_model.specs.Journal.{gives}
 use Rattle.board_model.specs.Answer.{given, success}
-use Rattle.buffer_book.specs.Book.{Book, IsQueued, content, queued_at, kept_at}
-use Rattle.domain_parts.specs.InBook.{content_in, endpoint_in, endpoints_in, item_in}
+use Rattle.buffer_book.specs.Book.{Book, IsQueued}
+use Rattle.domain_parts.specs.InBook.{content_in, endpoint_in, endpoints_in, frames_at, item_in, whole_at}
 use Rattle.board_model.specs.Choice.{best, oldest}
 use Rattle.mc_base.specs.declared.request.Slot.{Slot}
 use Rattle.board_model.specs.Lists.{changed_at}
@@ -23,7 +23,7 @@ use Rattle.domain_parts.specs.declared.endpoints.Endpoint.{Endpoint}
 use Rattle.domain_parts.proofs.Deleting.{gone-sound, oldest-out, oldest-queued, oldest-sound}
 use Rattle.domain_parts.specs.PlacedCalls.{best_queued, with_received, with_used}
 use Rattle.message_queue.specs.Queue.{Waiting}
-use Rattle.domain_parts.specs.GivingBack.{GivesBack, IsOutAt}
+use Rattle.domain_parts.specs.GivingBack.{AreOutAt, GivesBack}
 use Rattle.domain_parts.specs.Records.{slots_at, waiting_in, with_best_taken_at, Records, with_oldest_taken, with_oldest_taken_at, without_record_at}
 use Rattle.endpoint_table.specs.declared.record.Record.{Record}
 use Rattle.domain_parts.specs.Tied.{live_record}
@@ -37,42 +37,44 @@ use Rattle.std.proofs.lemmas.Option.{slice_get_within}
 use Rattle.std.proofs.lemmas.List.{length-map}
 use Rattle.endpoint_table.specs.Table.{deleted}
 use Rattle.domain_parts.proofs.Removing.{delete-tied}
-use Rattle.domain_parts.specs.CallSteps.{best_slot, call_steps, drops, if_some}
+use Rattle.domain_parts.specs.CallSteps.{best_slot, call_steps, dropped_at, drops, if_some}
 use Rattle.domain_parts.specs.Parts.{Parts, Sound, plain, state_of}
 use Rattle.domain_parts.specs.Steps.{at_peer, best_dropped, done, done_all, endpoint_gone, frame_put, moved_peer, oldest_dropped, requests_after}
-use Rattle.domain_parts.proofs.Queuing.{content-of, received-more}
+use Rattle.domain_parts.proofs.Queuing.{received-more}
 use Rattle.domain_parts.proofs.Receiving.{best-is, best-out, best-taken, given-state, taken-sound}
 use Rattle.domain_parts.proofs.Stepping.{Any, gives-seen, quiet-peers, set-is-map}
 
 module _ (p : Parts) (sound : Sound p) (i : ℕ) (w : Waiting) (is : best (λ (x : Waiting). x.priority) (waiting_in (slice_get p.records.endpoints i)) ≡ Some w) where
-  pub best_dropped-out : IsOutAt plain w.slot p.peers
+  abbrev fs : List ℕ
+  fs = frames_at p.book w.slot
+
+  pub best_dropped-out : AreOutAt plain w.slot.peer fs p.peers
   best_dropped-out = best-out plain p.book p.records p.requests p.table p.peers sound i w is
 
-  back : GivesBack Any plain w.slot p.peers (done (best_dropped i w.slot) p).peers
-  back = gives-seen w.slot p.peers sound.peers.rising best_dropped-out
+  back : GivesBack Any plain w.slot.peer fs p.peers (done (best_dropped i w.slot fs) p).peers
+  back = gives-seen w.slot.peer fs p.peers sound.peers.rising best_dropped-out
 
-  pub best_dropped-keeps : Sound (done (best_dropped i w.slot) p)
+  pub best_dropped-keeps : Sound (done (best_dropped i w.slot fs) p)
   best_dropped-keeps = taken-sound plain p.book p.records p.requests p.table p.peers sound i w is Any _ back
 
-  pub best_dropped-is : (at : Local) → Some i ≡ place_at (state_of p) at → state_of (done (best_dropped i w.slot) p) ≡ with_received (state_of p) at
+  pub best_dropped-is : (at : Local) → Some i ≡ place_at (state_of p) at → state_of (done (best_dropped i w.slot fs) p) ≡ with_received (state_of p) at
   best_dropped-is at there =
       given-state Any (λ l. tt) plain p.book p.records (with_best_taken_at p.records i) p.requests p.requests p.table w.slot p.peers _ back (received-more p.records p.requests p.book i w is) sound.places refl refl refl
       ∙ ap (λ (es : List state.Endpoint). record (state_of p) { endpoints = es }) (best-taken plain p.book p.records p.requests p.table p.peers sound i w is at there)
 
   -- the steps of the call, what it answers, and that it is not refused
   module _ (at : Local) (there : place_at (state_of p) at ≡ Some i) where
-    pub best_dropped-steps : (max : ℕ) → call_steps p at.node (receive_at at.port max) None ≡ best_dropped i w.slot ∷ []
+    pub best_dropped-steps : (max : ℕ) → call_steps p at.node (receive_at at.port max) None ≡ best_dropped i w.slot fs ∷ []
     best_dropped-steps max =
-        ap (λ (o : Option ℕ). if_some o (λ j. if_some (best_slot p j) (λ s. best_dropped j s ∷ []))) there
-        ∙ ap (λ (o : Option Waiting). if_some (option_map (λ (x : Waiting). x.slot) o) (λ s. best_dropped i s ∷ [])) is
+        ap (λ (o : Option ℕ). if_some o (λ j. if_some (best_slot p j) (λ s. best_dropped j s (frames_at p.book s) ∷ []))) there
+        ∙ ap (λ (o : Option Waiting). if_some (option_map (λ (x : Waiting). x.slot) o) (λ s. best_dropped i s (frames_at p.book s) ∷ [])) is
 
     best-there : best_queued (state_of p) at ≡ Some (item_in p.book w)
     best-there = best-is plain p.book p.records p.requests p.table p.peers sound i w is at (sym there)
 
-    pub best_dropped-answer : (max size : ℕ) (bytes out : List ℕ) → Some bytes ≡ option_map content (queued_at p.book w.slot) → size ≡ length bytes → out ≡ take max bytes → gives size out ≡ success (state_of p) at.node (receive_at at.port max)
-    best_dropped-answer max size bytes out read long cut =
-        let content = content-of (kept_at p.book w.slot) bytes read in
-        let same : gives size out ≡ gives (length (content_in (kept_at p.book w.slot))) (take max (content_in (kept_at p.book w.slot))) = cc in
+    pub best_dropped-answer : (max size : ℕ) (out : List ℕ) → size ≡ length (content_in (whole_at p.book w.slot)) → out ≡ take max (content_in (whole_at p.book w.slot)) → gives size out ≡ success (state_of p) at.node (receive_at at.port max)
+    best_dropped-answer max size out long cut =
+        let same : gives size out ≡ gives (length (content_in (whole_at p.book w.slot))) (take max (content_in (whole_at p.book w.slot))) = cc in
         same ∙ ap (λ (o : Option state.Item). given max o) (sym best-there)
 
 -- ---- a frame is put
@@ -141,13 +143,16 @@ module _ (p : Parts) (sound : Sound p) (i : ℕ) (s : Slot) (first : Some s ≡ 
   pub oldest_dropped-queued : IsQueued p.book s
   oldest_dropped-queued = oldest-queued plain p.book p.records p.requests p.table p.peers i s sound first
 
-  pub oldest_dropped-out : IsOutAt plain s p.peers
+  abbrev frames : List ℕ
+  frames = frames_at p.book s
+
+  pub oldest_dropped-out : AreOutAt plain s.peer frames p.peers
   oldest_dropped-out = oldest-out plain p.book p.records p.requests p.table p.peers i s sound first
 
-  pub oldest_dropped-keeps : Sound (done (oldest_dropped i s) p)
-  oldest_dropped-keeps = oldest-sound plain p.book p.records p.requests p.table p.peers i s sound first Any _ (gives-seen s p.peers sound.peers.rising oldest_dropped-out)
+  pub oldest_dropped-keeps : Sound (done (oldest_dropped i s frames) p)
+  oldest_dropped-keeps = oldest-sound plain p.book p.records p.requests p.table p.peers i s sound first Any _ (gives-seen s.peer frames p.peers sound.peers.rising oldest_dropped-out)
 
-  pub oldest_dropped-left : slots_at p.records i ≡ s ∷ slots_at (done (oldest_dropped i s) p).records i
+  pub oldest_dropped-left : slots_at p.records i ≡ s ∷ slots_at (done (oldest_dropped i s frames) p).records i
   oldest_dropped-left = oldest-left i p.records.endpoints s first
 
 -- ---- an endpoint is gone, at which nothing waits
@@ -175,9 +180,9 @@ same-places b b' at i r =
     ∙ sym (position-map live_record (names_it at) r.endpoints)
     ∙ sym (place-is b r.endpoints at)
 
-pub drops-place : (at : Local) (i : ℕ) (ss : List Slot) (p : Parts) → place_at (state_of (done_all (drops i ss) p)) at ≡ place_at (state_of p) at
-drops-place at i [] p = refl
-drops-place at i (s ∷ ss) p = drops-place at i ss (done (oldest_dropped i s) p) ∙ same-places p.book (done (oldest_dropped i s) p).book at i p.records
+pub drops-place : (b : Book) (at : Local) (i : ℕ) (ss : List Slot) (p : Parts) → place_at (state_of (done_all (drops b i ss) p)) at ≡ place_at (state_of p) at
+drops-place b at i [] p = refl
+drops-place b at i (s ∷ ss) p = drops-place b at i ss (done (dropped_at b i s) p) ∙ same-places p.book (done (dropped_at b i s) p).book at i p.records
 
 pub place-within : (p : Parts) (at : Local) (i : ℕ) → place_at (state_of p) at ≡ Some i → i < length p.records.endpoints
 place-within p at i there =

@@ -1,6 +1,6 @@
 -- A frame that is taken, by the verdict on it.
-use Rattle.std.proofs.Common.{◌≡◌, ℕ, zero, suc, ◌<◌, Bool, true, List, [], ◌∷◌, ◌++◌, length, map, take, Some, None, refl, sym, ap, ◌∙◌, subst, arith}
-use Rattle.std.specs.Prelude.{Contains, if◌then◌else◌, slice_get, slice_set}
+use Rattle.std.proofs.Common.{◌≡◌, ℕ, zero, suc, ◌<◌, Bool, true, List, [], ◌∷◌, ◌++◌, length, map, take, Option, Some, None, refl, sym, ap, ◌∙◌, subst, arith}
+use Rattle.std.specs.Prelude.{Contains, if◌then◌else◌, option_and_then, slice_get, slice_set}
 use Rattle.std.proofs.lemmas.List.{length-append, length-map}
 use Rattle.mc_base.specs.NameMap.{Names}
 use Rattle.mc_base.specs.Stored.{Stored}
@@ -17,7 +17,8 @@ use Rattle.board_model.specs.Parts.{came_from, part_in}
 use Rattle.board_model.specs.State.{DomainState}
 use Rattle.board_model.specs.TakenFrames.{Row, names_of, replies_to, row, row_from}
 use Rattle.board_model.proofs.WholeFrames.{taken-alone}
-use Rattle.buffer_book.specs.Book.{Book, IsAway, queued_in, with_queued}
+use Rattle.buffer_book.specs.Book as book
+use Rattle.buffer_book.specs.Book.{Book, IsAway, if_state, kept_in_buffer, queued_at, with_queued}
 use Rattle.endpoint_table.specs.Table as endpoint_table
 use Rattle.message_queue.specs.Queue.{waiting}
 use Rattle.request_set.specs.declared.ask.Ask.{Ask}
@@ -42,7 +43,7 @@ use Rattle.domain_parts.proofs.ChangedPeers.{set-changed}
 use Rattle.domain_parts.proofs.Effects.{effect-done, effect-ids, effect-lent, effect-is, effect-keeps, effect-moves, effect_steps, placed-same, with_left}
 use Rattle.domain_parts.proofs.PeerPlaces.{All-from}
 use Rattle.domain_parts.proofs.PeersAt.{Fit, find-place, outs-room}
-use Rattle.domain_parts.proofs.Placed.{is-away}
+use Rattle.domain_parts.proofs.Placed.{away-item, lane-of}
 use Rattle.domain_parts.proofs.Slots.{length-all}
 use Rattle.lane_end.proofs.CountLemmas.{length-apart}
 use Rattle.domain_parts.proofs.Queuing.{handed-ids}
@@ -51,7 +52,10 @@ use Rattle.domain_parts.proofs.Outs.{is-out}
 use Rattle.domain_parts.proofs.TurnMeaning.{frame_handed-is, frame_queued-is, frame_returned-is}
 use Rattle.domain_parts.proofs.TurnSteps.{but-one, frame_handed-keeps, frame_queued-keeps, frame_returned-keeps}
 use Rattle.domain_parts.proofs.Turning.{doing-by, peer-is, peers-are, seen-there}
-use Rattle.buffer_book.proofs.PlaceLemmas.{set-same}
+use Rattle.buffer_book.proofs.Sets.{set-same}
+use Rattle.domain_parts.proofs.Fitting.{held-fits}
+use Rattle.domain_parts.proofs.GivingLemmas.{all-stand}
+use Rattle.domain_parts.proofs.Placing.{lane-away}
 
 -- ---- lists
 
@@ -98,7 +102,11 @@ module _ {L : Type 0} (M : L → List LaneMove → L → Type 0) (m-none : (l : 
     apart-then = subst (λ (l : LaneSeen). AreApart l.size_from l.out) seen apart
 
     pub away-slot : IsAway b (slot_at n buffer.number)
-    away-slot = is-away (lent_slots r) n _ (slots_of r q) b buffer.number [] (but-one old sound i y at buffer.number apart-then).each
+    away-slot = lane-away n _ b buffer.number [] (lane-of (lent_slots r) n _ (slots_of r q) b (buffer.number ∷ []) (but-one old sound i y at buffer.number apart-then).each)
+
+    -- and names nothing
+    pub unqueued-slot : queued_at b (slot_at n buffer.number) ≡ None
+    unqueued-slot = ap (λ (o : Option book.Item). option_and_then (if_state None) o) (away-item (slots_of r q) (lent_slots r) b (all-stand plain b r q t (peers_seen v ps) sound) (slot_at n buffer.number) away-slot)
 
     -- there is room for it
     pub room-left : length (all_waiting r.endpoints) < r.room
@@ -108,7 +116,7 @@ module _ {L : Type 0} (M : L → List LaneMove → L → Type 0) (m-none : (l : 
         let out = length-apart (v x.ends).size_from ((v x.ends).out ++ buffer.number ∷ []) apart-then in
         let more = length-append (v x.ends).out (buffer.number ∷ []) in
         let both = length-all (all_waiting r.endpoints) (handed_slots q.standing) in
-        let total = sound.total in
+        let total = held-fits plain b r q t (peers_seen v ps) sound in
         let room = sound.room in
         omega (arith, most, out, more, both, total, room)
 
@@ -140,7 +148,7 @@ module _ {L : Type 0} (M : L → List LaneMove → L → Type 0) (m-none : (l : 
           told = subst (λ (k : ℕ). lines' ≡ lines ++ take_line k frame fate ∷ []) number told;
         }
 
-    module _ (size : ℕ) (fits : Fits frame size) (b' : Book) (book : b' ≡ with_queued b (slot_at n buffer.number) (queued_in buffer 24 size)) (names : Names) (same : names ≡ x.known) (rs : List Reply) (same_rs : rs ≡ x.replies) where
+    module _ (size : ℕ) (fits : Fits frame size) (b' : Book) (books : b' ≡ with_queued b (slot_at n buffer.number) (kept_in_buffer buffer 24 size)) (names : Names) (same : names ≡ x.known) (rs : List Reply) (same_rs : rs ≡ x.replies) where
       -- its message is queued
       module _ (j priority : ℕ) (is : IsQueued (state_of old) (row_from (state_of old) n (Some buffer.number) frame) (framed_item (buffer.number ∷ []) n frame size) j) (says : priority_of frame ≡ priority) (r' : Records) (q' : Requests) (records : r' ≡ with_waiting_at r j (waiting (slot_at n buffer.number) priority)) (requests : q' ≡ q) where
         queued-after : parts_in v b' r' q' t (took_ps names rs) ≡ done (frame_queued n buffer len size j priority) old
@@ -169,12 +177,12 @@ module _ {L : Type 0} (M : L → List LaneMove → L → Type 0) (m-none : (l : 
             takes-one Handed (holding_in v b' r' q' t (took_ps names rs))
             (kept-doing (frame_handed n buffer len size id a) Handed (item_handed is.destination (framed_item (buffer.number ∷ []) n frame size) ∷ []) b' r' q' names rs is.applies refl handed-after is.row_is
             (frame_handed-is old sound i y at buffer len size apart-then fits.short fits.inside id a is.destination is.endpoint is.pending is.named is.waits)
-            (handed-ids r q b b' _ n (slot_at n buffer.number) buffer size len (but-one old sound i y at buffer.number apart-then) refl book fits.short fits.inside q' id a sound.receives is.pending requests) (ap (λ (z : Records). z.lent) records) refl)
+            (handed-ids r q b b' _ n (slot_at n buffer.number) buffer size len (but-one old sound i y at buffer.number apart-then) refl books fits.short fits.inside q' id a sound.receives is.pending requests) (ap (λ (z : Records). z.lent) records) refl)
             told
 
     -- it is given back
     pub given-out : Contains (v e).out buffer.number
-    given-out = subst (λ (l : LaneSeen). Contains l.out buffer.number) (sym seen) (is-out n r q b _ buffer.number (but-one old sound i y at buffer.number apart-then))
+    given-out = subst (λ (l : LaneSeen). Contains l.out buffer.number) (sym seen) (is-out n r q b _ buffer.number [] (but-one old sound i y at buffer.number apart-then))
 
     module _ (m-both : (a b c : L) (xs ys : List LaneMove) → M a xs b → M b ys c → M a (xs ++ ys) c) (e' : L) (seen' : v e' ≡ after_move (receiver (Gave buffer.number)) (v e)) (moved' : M e (receiver (Gave buffer.number) ∷ []) e') (fate : Fate) (d' : Desk)
         (is : IsReturned (state_of old) n (row_from (state_of old) n (Some buffer.number) frame) fate (desk r q x.known x.replies) d') where

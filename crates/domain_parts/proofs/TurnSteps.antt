@@ -1,6 +1,6 @@
 -- The steps of a turn keep what the parts keep.
 use Rattle.std.proofs.Common.{◌≡◌, ℕ, zero, suc, ◌+◌, ◌<◌, ◌≤◌, Bool, true, false, cond, List, [], ◌∷◌, ◌++◌, length, map, take, Some, refl, sym, ap, ◌∙◌, subst, arith, eq-eqb, Option}
-use Rattle.std.specs.Prelude.{Contains, option_map, slice_get, nat_lt, ◌==◌}
+use Rattle.std.specs.Prelude.{Contains, is_some, option_map, slice_get, nat_lt, ◌==◌}
 use Rattle.std.specs.List.{AllByRecursion}
 use Rattle.std.proofs.lemmas.List.{length-append}
 use Rattle.mc_base.specs.NameMap.{Names}
@@ -15,7 +15,7 @@ use Rattle.lane_end.specs.ReceiverContract.{without}
 use Rattle.lane_end.specs.SendMoves.{Looked, Sent}
 use Rattle.mc_base.specs.Numbers.{inside}
 use Rattle.lane_end.proofs.CountLemmas.{often-append, tick, tick-same}
-use Rattle.buffer_book.specs.Book.{Book}
+use Rattle.buffer_book.specs.Book.{Book, kept_in_buffer, shelf_of}
 use Rattle.endpoint_table.specs.Table.{Table}
 use Rattle.message_queue.specs.Queue.{Waiting, waiting}
 use Rattle.board_model.specs.Lists.{changed_at}
@@ -42,6 +42,7 @@ use Rattle.domain_parts.specs.Records.{Records, all_waiting, with_channel_at, wi
 use Rattle.domain_parts.specs.Sound.{ArePeers, AreRising, IsSized, buffers_count, out_at, outs_count}
 use Rattle.domain_parts.specs.Steps.{at_peer, changed_peer, channel_given, channel_set, connect_settled, done, frame_handed, frame_queued, frame_returned, looked_ahead, looked_back, moved_peer, name_told, names_told, owed_put, receives_ended, reply_owed, reply_put, with_names, with_reply, with_reply_put}
 use Rattle.domain_parts.specs.Tied.{AreTied, live_record}
+use Rattle.domain_parts.proofs.Books.{queued-shelves}
 use Rattle.domain_parts.proofs.ChangedPeers.{changed-same}
 use Rattle.domain_parts.proofs.Completing.{handed-all, receives-all}
 use Rattle.domain_parts.proofs.GivingLemmas.{All-at, SameEndpoints, same-endpoints, same-tied}
@@ -49,7 +50,7 @@ use Rattle.domain_parts.proofs.Outs.{taken-places}
 use Rattle.domain_parts.proofs.PaidTables.{paid-is, tied-told}
 use Rattle.domain_parts.proofs.PeerPlaces.{All-from, set-same}
 use Rattle.domain_parts.proofs.PeersAt.{all-set, outs-set}
-use Rattle.domain_parts.proofs.Queuing.{handed-others, handed-places, handed-receives, handed-total, queued-others, queued-places, queued-total, same-held}
+use Rattle.domain_parts.proofs.Queuing.{handed-others, handed-places, handed-receives, queued-others, queued-places, same-held}
 use Rattle.domain_parts.proofs.Sending.{Outline, outline, same-sound}
 use Rattle.domain_parts.proofs.Stepping.{moved-numbers, quiet-peers, set-is-map}
 
@@ -83,7 +84,7 @@ owed_put-keeps p d frame sound =
     record {
       peers = q.peers;
       places = q.places;
-      total = q.total;
+      shelves = q.shelves;
       room = q.room;
       receives = q.receives;
       tied = subst (λ (t : Table). AreTied p.records t ns) (sym (paid-is 1 p.table d sound.tied.used)) (tied-told p.records p.table 1 d ns q.tied);
@@ -115,7 +116,7 @@ module _ (p : Parts) (who : Waiters) (how : Complete) (ends : MayEnd who how) (s
       (record {
         peers = sound.peers;
         places = All-from (λ x. AreInPlaces x.number p.records p.requests p.book (out_at plain x)) (λ x. AreInPlaces x.number p.records q' p.book (out_at plain x)) (λ x placed. same-held p.records p.records p.requests q' p.book x.number (out_at plain x) refl refl handed placed) p.peers sound.places;
-        total = ap (λ hs. length (map (λ w. w.slot) (all_waiting p.records.endpoints) ++ hs) + length p.records.lent) handed ∙ sound.total;
+        shelves = sound.shelves;
         room = sound.room;
         receives = receives-all p.requests who how ends sound.receives;
         tied = sound.tied;
@@ -150,7 +151,7 @@ records-keep p r same lends waits sound =
     (record {
       peers = subst (λ (k : ℕ). ArePeers plain k p.peers) (sym same.number) sound.peers;
       places = All-from (λ x. AreInPlaces x.number p.records p.requests p.book (out_at plain x)) (λ x. AreInPlaces x.number r p.requests p.book (out_at plain x)) (λ x placed. same-held p.records r p.requests p.requests p.book x.number (out_at plain x) lends waits refl placed) p.peers sound.places;
-      total = ap (λ ws. length (map (λ w. w.slot) ws ++ handed_slots p.requests.standing) + length r.lent) waits ∙ ap (λ ids. length (slots_of p.records p.requests) + length ids) lends ∙ sound.total;
+      shelves = sound.shelves;
       room = let room = sound.room in let room_same = same.room in omega (arith, room, room_same);
       receives = sound.receives;
       tied = same-tied p.records r p.table (numbers_of p.peers) same sound.tied;
@@ -235,21 +236,18 @@ module _ (p : Parts) (sound : Sound p) (i : ℕ) (x : Peer LaneSeen) (there : sl
   but-one = taken-places x.number p.records p.requests p.book n _ _ _ _ refl refl apart (All-at (λ (y : Peer LaneSeen). AreInPlaces y.number p.records p.requests p.book (out_at plain y)) p.peers i x sound.places there)
 
   -- it is kept
-  kept-sound : (frame : List ℕ) (b : Book) (r : Records) (q : Requests) → SameEndpoints p.records r → r.lent ≡ p.records.lent → AreInPlaces x.number r q b now → KeepOthers x.number p.records p.requests p.book r q b → length (slots_of r q) ≡ length (slots_of p.records p.requests) + 1 → AreReceives q
+  kept-sound : (frame : List ℕ) (b : Book) (r : Records) (q : Requests) → SameEndpoints p.records r → r.lent ≡ p.records.lent → AreInPlaces x.number r q b now → KeepOthers x.number p.records p.requests p.book r q b → ((k : ℕ) → is_some (shelf_of b k) ≡ is_some (shelf_of p.book k)) → AreReceives q
       → Sound (record { book = b; records = r; requests = q; table = p.table; peers = map (moved_peer (at_peer x.number (receiver (Took n frame) ∷ []))) p.peers })
-  kept-sound frame b r q same lends placed others more receives =
+  kept-sound frame b r q same lends placed others shelves receives =
       let ms = receiver (Took n frame) ∷ [] in
       let x' = record x { ends = after_moves ms x.ends } in
       let moves = at_peer x.number ms in
       let set = set-is-map x.number ms p.peers i x sound.peers.rising there refl in
-      let outs = ap (outs_count plain) set in
-      let more_out = outs-set plain i p.peers x x' there in
-      let long = length-append x.ends.out (n ∷ []) in
       record {
         peers = subst (λ (k : ℕ). ArePeers plain k (map (moved_peer moves) p.peers)) (sym same.number) (peers_moved moves p.records.number p.peers sound.peers);
         places = subst (AllByRecursion (λ (y : Peer LaneSeen). AreInPlaces y.number r q b (out_at plain y))) set
             (all-set (λ (y : Peer LaneSeen). AreInPlaces y.number p.records p.requests p.book (out_at plain y)) (λ (y : Peer LaneSeen). AreInPlaces y.number r q b (out_at plain y)) i p.peers x x' sound.peers.rising there (λ y differ was. others y.number (out_at plain y) differ was) placed sound.places);
-        total = let total = sound.total in let same_lent = ap length lends in omega (arith, more, outs, more_out, long, total, same_lent);
+        shelves = λ k is. subst (λ (ns : List ℕ). Contains ns k) (sym (moved-numbers moves p.peers)) (sound.shelves k (sym (shelves k) ∙ is));
         room = let room = sound.room in let room_same = same.room in let buffers = buffers_moved moves p.peers in omega (arith, room, room_same, buffers);
         receives = receives;
         tied = subst (AreTied r p.table) (sym (moved-numbers moves p.peers)) (same-tied p.records r p.table (numbers_of p.peers) same sound.tied);
@@ -275,7 +273,7 @@ module _ (p : Parts) (sound : Sound p) (i : ℕ) (x : Peer LaneSeen) (there : sl
       kept-sound p sound i x there buffer.number apart (take len buffer.bytes) now.book now.records now.requests (waiting-same p.records j (waiting (slot_at x.number buffer.number) priority)) refl
       (queued-places p.records p.requests p.book now.book _ x.number (slot_at x.number buffer.number) buffer size len placed_but refl refl small fits now.records j priority says refl within)
       (queued-others p.records p.requests p.book now.book _ x.number (slot_at x.number buffer.number) buffer size len placed_but refl refl small fits now.records j priority says refl within)
-      (queued-total p.records p.requests p.book now.book _ x.number (slot_at x.number buffer.number) buffer size len placed_but refl refl small fits now.records j priority says refl within)
+      (queued-shelves p.book (slot_at x.number buffer.number) (kept_in_buffer buffer 24 size))
       sound.receives
 
   pub frame_handed-keeps : (id : RequestId) (a : Ask) → IsPending p.requests id → option_map (λ r. r.ask) (request_of p.requests id) ≡ Some a → (at : Local) → receives_at at a ≡ true → Sound (done (frame_handed x.number buffer len size id a) p)
@@ -284,5 +282,5 @@ module _ (p : Parts) (sound : Sound p) (i : ℕ) (x : Peer LaneSeen) (there : sl
       kept-sound p sound i x there buffer.number apart (take len buffer.bytes) now.book now.records now.requests (same-endpoints p.records) refl
       (handed-places p.records p.requests p.book now.book _ x.number (slot_at x.number buffer.number) buffer size len placed_but refl refl small fits now.requests id a sound.receives pending refl)
       (handed-others p.records p.requests p.book now.book _ x.number (slot_at x.number buffer.number) buffer size len placed_but refl refl small fits now.requests id a sound.receives pending refl)
-      (handed-total p.records p.requests p.book now.book _ x.number (slot_at x.number buffer.number) buffer size len placed_but refl refl small fits now.requests id a sound.receives pending refl)
+      (queued-shelves p.book (slot_at x.number buffer.number) (kept_in_buffer buffer 24 size))
       (handed-receives p.records p.requests p.book now.book _ x.number (slot_at x.number buffer.number) buffer size len placed_but refl refl small fits now.requests id a sound.receives pending refl asks at receives)

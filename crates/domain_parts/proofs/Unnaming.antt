@@ -17,9 +17,7 @@ use Rattle.board_model.proofs.RenamedCalls.{call-renamed, first-renamed, packet-
 use Rattle.board_model.proofs.RenamedChanges.{renamed-all}
 use Rattle.board_model.proofs.UnnamedDeeds.{all-unnamed, deeds-unnamed, visit-unnamed}
 use Rattle.buffer_book.specs.Book.{Book}
-use Rattle.domain_parts.specs.CallSteps.{buffers_of}
 use Rattle.domain_parts.specs.Calls.{brings_whole, gives_whole, place_ended, place_released, success_ends, success_releases}
-use Rattle.domain_parts.specs.InBook.{item_at, numbered_at}
 use Rattle.domain_parts.specs.NumberedDeeds.{number_in, numbered_deeds}
 
 -- ---- visits
@@ -70,15 +68,3 @@ module _ (s : DomainState) (node : ℕ) (call : DomainCall) where
 
   pub released-unnamed : place_released (unnamed s) node call ≡ place_released s node call
   released-unnamed = ap (λ o. unless_refused o None (success_releases call)) (refusal-renamed no_names s node call)
-
--- ---- the names of what is given back
-
-pub names-are : (b : Book) (peer : ℕ) (slots : List Slot) → buffers_of peer slots ≡ frames_from peer (map (numbered_at b) slots)
-names-are b peer [] = refl
-names-are b peer (s ∷ slots) = go (s.peer == peer) (names-are b peer slots)
-  where
-    go : (t : Bool) → buffers_of peer slots ≡ frames_from peer (map (numbered_at b) slots)
-        → map (λ (x : Slot). x.buffer) (cond t (s ∷ filter (λ (x : Slot). x.peer == peer) slots) (filter (λ (x : Slot). x.peer == peer) slots))
-        ≡ flat_map (λ (i : Item). i.frames) (cond t (numbered_at b s ∷ filter (is_from peer) (map (numbered_at b) slots)) (filter (is_from peer) (map (numbered_at b) slots)))
-    go true rest = ap (λ (ns : List ℕ). s.buffer ∷ ns) rest
-    go false rest = rest

@@ -97,7 +97,7 @@ module _ {L : Type 0} (M : L → List LaneMove → L → Type 0) (ids : List Req
 
 -- a wait does what a test of the first complete request does
 wait-means : (p : Parts) (ps : List (Option ℕ)) (says_place : Bool) → Means p 0 (test_of (first_complete (state_of p) ps)) None → Means p 0 (wait_for ps says_place) None
-wait-means p ps says_place m = record { state = m.state; slots = m.slots; returned = m.returned; moves = m.moves; ids = m.ids; fresh = m.fresh; lent = m.lent; packets = m.packets; lends = m.lends }
+wait-means p ps says_place m = record { state = m.state; moves = m.moves; ids = m.ids; fresh = m.fresh; lent = m.lent; packets = m.packets; lends = m.lends }
 
 module _ {L : Type 0} (M : L → List LaneMove → L → Type 0) (old new : Holding L) (ps : List (Option ℕ)) (says_place : Bool) where
   abbrev s : DomainState

@@ -14,7 +14,7 @@ use Rattle.board_model.proofs.ListsCounts.{count-append, count-cons, count-every
 use Rattle.board_model.proofs.MessageVisitLines.{count-map}
 use Rattle.board_model.proofs.MessageBest.{best-map, count-best, without_best-map}
 use Rattle.mc_base.specs.declared.request.Slot.{Slot}
-use Rattle.buffer_book.specs.Book.{Book, Kept, with_place}
+use Rattle.buffer_book.specs.Book.{Book}
 use Rattle.message_queue.specs.Queue.{Waiting}
 use Rattle.packet_channel.specs.End.{end_of}
 use Rattle.packet_channel.specs.declared.channel.Channel.{Channel}
@@ -23,9 +23,9 @@ use Rattle.board_model.specs.Queues.{messages_at}
 use Rattle.domain_parts.specs.Hearing.{messages_waiting}
 use Rattle.domain_parts.specs.Table.{items_in}
 use Rattle.domain_parts.specs.Records.{all_waiting, waiting_in, with_best_taken, with_waiting}
-use Rattle.domain_parts.specs.InBook.{channel_in, content_in, endpoint_in, endpoints_in, item_in, source_in}
+use Rattle.domain_parts.specs.InBook.{Whole, endpoint_in, endpoints_in, item_in, item_read}
 use Rattle.domain_parts.specs.InPlaces.{is_of, is_same, one_if, times_waiting}
-use Rattle.domain_parts.proofs.Books.{differ-back, kept-there}
+use Rattle.domain_parts.proofs.Books.{Others, differ-back}
 use Rattle.domain_parts.proofs.Placed.{no-one}
 
 -- ---- how much waits
@@ -74,25 +74,24 @@ messages-within (e ∷ es) = omega (arith, sum_by-cons messages_waiting e es, me
 
 -- ---- what waits, by the book
 
--- what waits in other buffers than the one that changed
-items-stay : (b : Book) (s : Slot) (k : Option Kept) (ws : List Waiting) → times_waiting s ws ≡ 0 → map (item_in (with_place b s k)) ws ≡ map (item_in b) ws
-items-stay b s k [] none = refl
-items-stay b s k (w ∷ ws) none =
+-- what waits in other slots than the one that changed
+items-stay : (b b' : Book) (s : Slot) → Others b b' s → (ws : List Waiting) → times_waiting s ws ≡ 0 → map (item_in b') ws ≡ map (item_in b) ws
+items-stay b b' s others [] none = refl
+items-stay b b' s others (w ∷ ws) none =
     let sum = count-cons (λ (x : Waiting). is_same x.slot s) w ws in
     let here : one_if (is_same w.slot s) ≡ 0 = omega (arith, sum, none) in
     let rest : times_waiting s ws ≡ 0 = omega (arith, sum, none) in
     let differ = differ-back w.slot s (no-one (is_same w.slot s) here) in
-    let item : item_in (with_place b s k) w ≡ item_in b w = ap (λ (o : Option Kept). record { peer = w.slot.peer; source = source_in o; priority = w.priority; channel = channel_in o; content = content_in o; frames = w.slot.buffer ∷ [] }) (kept-there b s k w.slot differ) in
-    ap (λ (x : Item). x ∷ map (item_in (with_place b s k)) ws) item ∙ ap (λ (xs : List Item). item_in b w ∷ xs) (items-stay b s k ws rest)
+    ap (λ (o : Option Whole). item_read o w.slot w.priority ∷ map (item_in b') ws) (others w.slot differ) ∙ ap (λ (xs : List Item). item_in b w ∷ xs) (items-stay b b' s others ws rest)
 
-pub endpoints-stay : (b : Book) (s : Slot) (k : Option Kept) (es : List Endpoint) → times_waiting s (all_waiting es) ≡ 0 → endpoints_in (with_place b s k) es ≡ endpoints_in b es
-endpoints-stay b s k [] none = refl
-endpoints-stay b s k (e ∷ es) none =
+pub endpoints-stay : (b b' : Book) (s : Slot) → Others b b' s → (es : List Endpoint) → times_waiting s (all_waiting es) ≡ 0 → endpoints_in b' es ≡ endpoints_in b es
+endpoints-stay b b' s others [] none = refl
+endpoints-stay b b' s others (e ∷ es) none =
     let sum = count-append (λ (x : Waiting). is_same x.slot s) e.queue.waiting (all_waiting es) in
     let here : times_waiting s e.queue.waiting ≡ 0 = omega (arith, sum, none) in
     let rest : times_waiting s (all_waiting es) ≡ 0 = omega (arith, sum, none) in
-    ap (λ (q : List Item). record (endpoint_in b e) { queue = q } ∷ endpoints_in (with_place b s k) es) (items-stay b s k e.queue.waiting here)
-    ∙ ap (λ (xs : List state.Endpoint). endpoint_in b e ∷ xs) (endpoints-stay b s k es rest)
+    ap (λ (q : List Item). record (endpoint_in b e) { queue = q } ∷ endpoints_in b' es) (items-stay b b' s others e.queue.waiting here)
+    ∙ ap (λ (xs : List state.Endpoint). endpoint_in b e ∷ xs) (endpoints-stay b b' s others es rest)
 
 -- an item more, last at a place
 pub endpoints-more : (b : Book) (w : Waiting) (es : List Endpoint) (i : ℕ) → endpoints_in b (changed_at (with_waiting w) i es) ≡ changed_at (queued_last (item_in b w)) i (endpoints_in b es)

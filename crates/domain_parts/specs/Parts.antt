@@ -10,6 +10,7 @@ use Rattle.board_model.specs.Unnamed.{unnamed}
 use Rattle.domain_parts.specs.declared.peer.Peer.{Peer}
 use Rattle.domain_parts.specs.AllMoved.{ends_of}
 use Rattle.domain_parts.specs.DomainView.{DomainView}
+use Rattle.domain_parts.specs.InBook.{contents_of}
 use Rattle.domain_parts.specs.LaneSeen.{LaneSeen}
 use Rattle.domain_parts.specs.Peers.{state_in}
 use Rattle.domain_parts.specs.Records.{Records}
@@ -61,4 +62,4 @@ holding_in v b r q t ps = record { parts = parts_in v b r q t ps; ends = ends_of
 
 -- what contracts of a domain see of it
 abbrev pub shown : {L : Type 0} → Holding L → DomainView L
-shown h = record { state = unnamed (state_of h.parts); numbered = state_of h.parts; nameless = refl; ends = h.ends; ids = map (λ r. r.id) h.parts.requests.standing; packets = h.parts.records.lent }
+shown h = record { state = unnamed (state_of h.parts); numbered = state_of h.parts; nameless = refl; ends = h.ends; ids = map (λ r. r.id) h.parts.requests.standing; packets = h.parts.records.lent; pieces = contents_of h.parts.book h.parts.records.lent }

@@ -1,9 +1,9 @@
 -- What the parts of a domain keep.
 -- Source: the code of the domain.
-use Rattle.std.specs.Prelude.{◌≡◌, ◌≤◌, ◌<◌, ◌+◌, ℕ, List, [], ◌∷◌, length, Contains}
+use Rattle.std.specs.Prelude.{◌≡◌, ◌≤◌, ◌<◌, ◌+◌, ℕ, List, [], ◌∷◌, length, is_some, true, Contains}
 use Rattle.std.specs.List.{AllByRecursion}
 use Rattle.mc_base.specs.Limits.{creation_limit, last_domain, ring_limit}
-use Rattle.buffer_book.specs.Book.{Book}
+use Rattle.buffer_book.specs.Book.{Book, shelf_of}
 use Rattle.request_set.specs.Requests.{Requests}
 use Rattle.endpoint_table.specs.Table as endpoint_table
 use Rattle.domain_parts.specs.LaneSeen.{LaneSeen}
@@ -11,7 +11,7 @@ use Rattle.domain_parts.specs.declared.peer.Peer.{Peer}
 use Rattle.domain_parts.specs.Out.{Out, out_of}
 use Rattle.domain_parts.specs.Records.{Records}
 use Rattle.domain_parts.specs.InRequests.{AreReceives}
-use Rattle.domain_parts.specs.InPlaces.{AreInPlaces, slots_of}
+use Rattle.domain_parts.specs.InPlaces.{AreInPlaces}
 use Rattle.domain_parts.specs.AllMoved.{numbers_of}
 use Rattle.domain_parts.specs.Tied.{AreTied}
 
@@ -48,9 +48,10 @@ pub record ArePeers {L : Type 0} (v : L → LaneSeen) (number : ℕ) (ps : List 
 -- the book, the endpoints, the requests, the records in use and the peers
 pub record AreSound {L : Type 0} (v : L → LaneSeen) (b : Book) (r : Records) (q : Requests) (t : endpoint_table.Table) (ps : List (Peer L)) : Type 0 where
   pub peers : ArePeers v r.number ps
-  -- each buffer that is out is in one place, and none else is held
+  -- each buffer that is out is in one item, and each item in one place
   pub places : AllByRecursion (λ p. AreInPlaces p.number r q b (out_at v p)) ps
-  pub total : length (slots_of r q) + length r.lent ≡ outs_count v ps
+  -- the book knows no other peers
+  pub shelves : (n : ℕ) → is_some (shelf_of b n) ≡ true → Contains (numbers_of ps) n
   pub room : buffers_count v ps ≤ r.room
   pub receives : AreReceives q
   pub tied : AreTied r t (numbers_of ps)

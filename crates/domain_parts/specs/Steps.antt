@@ -1,7 +1,7 @@
 -- The steps that a domain makes inside, and what each does to its parts and at the ends towards its peers.
--- Source: docs/PROFILE.md, "Calls". A step names the place, the slot and the request that it is about, so that it tells the number of
--- each buffer that is given back.
-use Rattle.std.specs.Prelude.{◌≡◌, ℕ, ◌+◌, ◌%◌, ◌^◌, ◌==◌, cond, List, [], ◌∷◌, ◌++◌, drop, map, option_map, take, unwrap_or, Option, Some}
+-- Source: docs/PROFILE.md, "Calls". A step names the place, the slot and the request that it is about, and the number of each buffer that
+-- is given back.
+use Rattle.std.specs.Prelude.{◌≡◌, ℕ, ◌+◌, ◌%◌, ◌^◌, ◌==◌, cond, List, [], ◌∷◌, ◌++◌, drop, map, take, Option, None, Some}
 use Rattle.mc_base.specs.FullName.{end_name}
 use Rattle.mc_base.specs.NameMap.{Names}
 use Rattle.mc_base.specs.Stored.{Stored}
@@ -16,7 +16,7 @@ use Rattle.lane_end.specs.SendMoves.{Looked, Sent}
 use Rattle.lane_end.specs.ReceiveMoves.{Gave, Took}
 use Rattle.lane_end.specs.ReceiveMoves as receiving
 use Rattle.board_model.specs.Lists as lists
-use Rattle.buffer_book.specs.Book.{Book, queued_at, queued_in, slot_of, with_away, with_lent, with_queued}
+use Rattle.buffer_book.specs.Book.{Book, kept_in_buffer, slot_of, with_lent, with_queued, with_taken}
 use Rattle.endpoint_table.specs.Table as endpoint_table
 use Rattle.request_set.specs.declared.ask.Ask.{Ask}
 use Rattle.request_set.specs.declared.ask.Ask.TheVariants as ask
@@ -29,7 +29,7 @@ use Rattle.domain_parts.specs.LaneSeen.{LaneSeen, after_move, after_moves}
 use Rattle.domain_parts.specs.declared.peer.Peer.{Peer}
 use Rattle.domain_parts.specs.declared.replies.Reply.{Reply}
 use Rattle.domain_parts.specs.declared.requests.Waiters.TheVariants as waiters
-use Rattle.domain_parts.specs.AllMoved.{AllMoved, numbers_of}
+use Rattle.domain_parts.specs.AllMoved.{AllMoved, giving, numbers_of}
 use Rattle.domain_parts.specs.InPlaces.{slot_at}
 use Rattle.domain_parts.specs.InRequests.{handed_by, with_all_complete}
 use Rattle.domain_parts.specs.LaneMoves.{LaneMove, sender, receiver}
@@ -61,26 +61,26 @@ pub data Step : Type 0 where
   endpoint_made : ℕ → Local → ℕ → Step
   -- the endpoint at a place, which has this name and at which nothing waits, is gone
   endpoint_gone : ℕ → Local → Step
-  -- the best message at a place, which is in this slot, is dropped, and so is the oldest
-  best_dropped : ℕ → Slot → Step
-  oldest_dropped : ℕ → Slot → Step
+  -- the best message at a place, which this slot names, is dropped, and so is the oldest; these are its frames
+  best_dropped : ℕ → Slot → List ℕ → Step
+  oldest_dropped : ℕ → Slot → List ℕ → Step
   -- a frame is put to a peer
   frame_put : ℕ → List ℕ → Step
   -- a request with this id is begun, and may be complete at once
   request_begun : RequestId → Ask → Option Complete → Step
-  -- a receive is begun with the best message at a place, which is in this slot: by an endpoint, of so many bytes at most
+  -- a receive is begun with the best message at a place, which this slot names: by an endpoint, of so many bytes at most
   receive_begun : ℕ → Slot → RequestId → Local → ℕ → Step
-  -- the request at a place is gone, and with it the message that it held, which is in this slot
+  -- the request at a place is gone, and with it the message that it held, which this slot names and which has these frames
   request_ended : Option ℕ → Step
-  message_ended : Option ℕ → Slot → Step
-  -- the oldest packet at a place is lent with this id; a receive of a packet is begun by an endpoint with the oldest at a place, which is
-  -- in this slot
+  message_ended : Option ℕ → Slot → List ℕ → Step
+  -- the oldest packet at a place is lent with this id; a receive of a packet is begun by an endpoint with the oldest at a place, which
+  -- this slot names
   oldest_lent : ℕ → PacketId → Step
   packet_begun : ℕ → Slot → RequestId → Local → Step
   -- the request at a place is gone, and the packet that it held is lent with this id; the packet at a place of the lent ones, which has
-  -- this id, is released
+  -- this id and these frames, is released
   packet_ended : Option ℕ → PacketId → Step
-  packet_released : ℕ → PacketId → Step
+  packet_released : ℕ → PacketId → List ℕ → Step
   -- at a peer a look shows so many buffers that came back; the oldest announcement that is owed is put, in this frame; a look shows so
   -- many frames
   looked_back : ℕ → ℕ → Step
@@ -105,34 +105,36 @@ pub data Step : Type 0 where
   reply_owed : ℕ → Reply → Step
   reply_put : ℕ → List ℕ → Step
 
--- the packet in a slot is lent, under the serial that comes next
+-- the packet that a slot names is lent, under the serial that comes next
 abbrev pub next_lent : Book → Slot → PacketId
 next_lent b s = record { peer = s.peer; buffer = s.buffer; serial = b.lends }
 
-abbrev pub with_lent_at : Book → Slot → Book
-with_lent_at b s = unwrap_or (option_map (with_lent b s) (queued_at b s)) b
+-- the frames of an item are taken out of the book, one after the other
+abbrev pub without_frames : Book → Slot → Option ℕ → List ℕ → Book
+without_frames b s lent [] = b
+without_frames b s lent (f ∷ fs) = without_frames (with_taken b s lent) s lent fs
 
 abbrev pub book_after : Step → Book → Book
-book_after (best_dropped i s) b = with_away b s
-book_after (oldest_dropped i s) b = with_away b s
-book_after (message_ended place s) b = with_away b s
-book_after (frame_queued peer buffer len size i priority) b = with_queued b (slot_at peer buffer.number) (queued_in buffer 24 size)
-book_after (frame_handed peer buffer len size id a) b = with_queued b (slot_at peer buffer.number) (queued_in buffer 24 size)
-book_after (oldest_lent i id) b = with_lent_at b (slot_of id)
-book_after (packet_ended place id) b = with_lent_at b (slot_of id)
-book_after (packet_released i id) b = with_away b (slot_of id)
+book_after (best_dropped i s fs) b = without_frames b s None fs
+book_after (oldest_dropped i s fs) b = without_frames b s None fs
+book_after (message_ended place s fs) b = without_frames b s None fs
+book_after (frame_queued peer buffer len size i priority) b = with_queued b (slot_at peer buffer.number) (kept_in_buffer buffer 24 size)
+book_after (frame_handed peer buffer len size id a) b = with_queued b (slot_at peer buffer.number) (kept_in_buffer buffer 24 size)
+book_after (oldest_lent i id) b = with_lent b (slot_of id)
+book_after (packet_ended place id) b = with_lent b (slot_of id)
+book_after (packet_released i id fs) b = without_frames b (slot_of id) (Some id.serial) fs
 book_after other b = b
 
 abbrev pub records_after : Step → Records → Records
 records_after (endpoint_made domain at address) r = with_record r at
 records_after (endpoint_gone i at) r = without_record_at r i
-records_after (best_dropped i s) r = with_best_taken_at r i
-records_after (oldest_dropped i s) r = with_oldest_taken_at r i
+records_after (best_dropped i s fs) r = with_best_taken_at r i
+records_after (oldest_dropped i s fs) r = with_oldest_taken_at r i
 records_after (receive_begun i s id at max) r = with_best_taken_at r i
 records_after (oldest_lent i id) r = with_last_lent (with_oldest_taken_at r i) id
 records_after (packet_begun i s id at) r = with_oldest_taken_at r i
 records_after (packet_ended place id) r = with_last_lent r id
-records_after (packet_released i id) r = without_lent_at r i
+records_after (packet_released i id fs) r = without_lent_at r i
 records_after (frame_queued peer buffer len size i priority) r = with_waiting_at r i (waiting (slot_at peer buffer.number) priority)
 records_after (channel_set i c) r = with_channel_at r i c
 records_after channel_given r = with_channel_given r
@@ -153,7 +155,7 @@ requests_after (receive_begun i s id at max) q = with_last q id (ask.Message at 
 requests_after (packet_begun i s id at) q = with_last q id (ask.Packet at) (Some (complete.Packet s))
 requests_after (packet_ended place id) q = without_at q place
 requests_after (request_ended place) q = without_at q place
-requests_after (message_ended place s) q = without_at q place
+requests_after (message_ended place s fs) q = without_at q place
 requests_after (frame_handed peer buffer len size id a) q = with_complete q id (handed_by a (slot_at peer buffer.number))
 requests_after (name_told name address) q = with_all_complete q (waiters.Lookups name) (complete.Address address)
 requests_after (connect_settled number how) q = with_all_complete q (waiters.Connects number) how
@@ -172,10 +174,10 @@ at_peer peer ms n = cond (peer == n) ms []
 
 -- the moves at the peer of a number
 abbrev pub step_moves : Step → ℕ → List LaneMove
-step_moves (best_dropped i s) n = at_peer s.peer (receiver (Gave s.buffer) ∷ []) n
-step_moves (oldest_dropped i s) n = at_peer s.peer (receiver (Gave s.buffer) ∷ []) n
-step_moves (message_ended place s) n = at_peer s.peer (receiver (Gave s.buffer) ∷ []) n
-step_moves (packet_released i id) n = at_peer id.peer (receiver (Gave id.buffer) ∷ []) n
+step_moves (best_dropped i s fs) n = at_peer s.peer (giving fs) n
+step_moves (oldest_dropped i s fs) n = at_peer s.peer (giving fs) n
+step_moves (message_ended place s fs) n = at_peer s.peer (giving fs) n
+step_moves (packet_released i id fs) n = at_peer id.peer (giving fs) n
 step_moves (frame_put peer frame) n = at_peer peer (sender (Sent frame) ∷ []) n
 step_moves (looked_back peer count) n = at_peer peer (sender (Looked count) ∷ []) n
 step_moves (owed_put peer frame) n = at_peer peer (sender (Sent frame) ∷ []) n

@@ -1,6 +1,6 @@
 //! The endpoints of a domain and their queues.
 
-ghost use Rattle.std.specs.Prelude.{◌≡◌, ◌≤◌, ◌<◌, ◌+◌, [], false, IfOk, IfSome, IsNone, ◌^◌, ◌==◌, filter, find, length, map, sum_by, count_by, is_some, position, slice_get, Some, nat_le, option_map, vec_capacity};
+ghost use Rattle.std.specs.Prelude.{◌≡◌, ◌≤◌, ◌<◌, ◌+◌, [], false, IfOk, IfSome, IsNone, ◌^◌, ◌==◌, filter, find, length, map, sum_by, is_some, position, slice_get, Some, nat_le, option_map, vec_capacity};
 ghost use Rattle.std.specs.List.{AllByRecursion};
 ghost use Rattle.std.specs.Ordering.{nat_cmp};
 ghost use Rattle.mc_base.specs.Limits.{first_address, channel_limit};
@@ -225,14 +225,6 @@ impl Endpoints {
         ensures { self.new ≡ without_lent_at self.old place }
     {
         self.lent.remove(place);
-    }
-
-    /// How many packets from a peer are lent.
-    pub fn lent_from(&self, peer: u8) -> u32
-        requires { length self.now.lent ≤ 65536 }
-        ensures { result ≡ count_by (λ i. i.peer == peer) self.now.lent }
-    {
-        self.lent.iter().filter(|i| i.peer == peer).count() as u32
     }
 
     /// The name of the endpoint at a place.

@@ -29,8 +29,8 @@ use crate::peer::Peer;
 use crate::peer_lane::PeerLane;
 use crate::peers::place_of;
 use crate::requests::handed_from;
-use buffer_book::{BufferBook, Places};
 use endpoint_table::EndpointTable;
+use buffer_book::{BufferBook, Places};
 use mc_base::{BUFFER_SIZE, EndName, Letter, Local};
 use mc_journal::{Entry, Journal};
 pub use opening::carry;
@@ -75,10 +75,11 @@ impl<P: PeerLane> Holdings<P> {
         ensures lent { IfSome result (λ p. p.lent ≡ lent_from peer (shown self.now).state) }
     {
         place_of(&self.peers, peer)?;
-        let handed = handed_from(&self.requests, peer);
+        let held = self.book.places(peer);
+        let handed = handed_from(&self.requests, &self.book, peer);
         Some(Places {
-            queue: self.book.places(peer).queue - handed, // In the book what was handed is in a queue.
-            lent: self.endpoints.lent_from(peer) + handed,
+            queue: held.queue - handed, // In the book what was handed is in a queue.
+            lent: held.lent + handed,
         })
     }
 

@@ -3,9 +3,12 @@
 ghost use Rattle.std.specs.Prelude.{◌≡◌, ◌≤◌, ◌<◌, ◌++◌, min, length, take, drop};
 ghost use Rattle.mc_base.specs.Frame.{made};
 ghost use Rattle.mc_base.specs.Letter.{FitsFrame, letter_text, saying_of};
+ghost use Rattle.buffer_book.specs.Book.{IsQueued};
+ghost use Rattle.domain_parts.specs.InBook.{content_in, whole_at};
 
 use bridge_frame::write_letter;
-use mc_base::{FRAME_HEADER_SIZE, Got, LETTER_HEADER_SIZE, Letter};
+use buffer_book::BufferBook;
+use mc_base::{FRAME_HEADER_SIZE, Got, LETTER_HEADER_SIZE, Letter, Slot};
 use rpmsg_frame::write_header;
 
 /// Where the content lies in the buffer of a message.
@@ -35,35 +38,36 @@ fn write_payload(out: &mut [u8], letter: &Letter<'_>) -> usize
     write_letter(letter, &mut out[FRAME_HEADER_SIZE..])
 }
 
-/// Gives the first bytes of a message, as many as fit. The rest of `out` stays.
-pub fn give(content: &[u8], out: &mut [u8]) -> Got
-    requires { length content.now ≤ 488 }
-    ensures size { result.size ≡ length content.now }
-    ensures given { result.given ≡ min (length out.old) result.size }
-    ensures bytes { take result.given out.new ≡ take (length out.old) content.now }
+/// Gives the first bytes of an item in a queue, at most so many. There is room for them. The rest of `out` stays.
+pub fn give(book: &BufferBook, slot: Slot, most: usize, out: &mut [u8]) -> Got
+    requires queued { IsQueued book.now slot }
+    requires short { length (content_in (whole_at book.now slot)) ≤ 488 }
+    requires room { most ≤ length out.old }
+    ensures size { result.size ≡ length (content_in (whole_at book.now slot)) }
+    ensures given { result.given ≡ min most result.size }
+    ensures bytes { take result.given out.new ≡ take most (content_in (whole_at book.now slot)) }
     ensures rest { drop result.given out.new ≡ drop result.given out.old }
 {
-    let given = content.len().min(out.len());
-    out[..given].copy_from_slice(&content[..given]);
+    let mut size = 0;
+    let mut given = 0;
+    for n in 0..book.pieces(slot) {
+        let piece = book.piece(slot, n);
+        given += append(piece, &mut out[given..most]);
+        size += piece.len();
+    }
     Got {
-        size: content.len() as u32,
+        size: size as u32,
         given: given as u32,
     }
 }
 
-/// Gives the first bytes of a message, at most so many. There is room for them. The rest of `out` stays.
-pub fn give_at_most(content: &[u8], max: u32, out: &mut [u8]) -> Got
-    requires size { length content.now ≤ 488 }
-    requires room { 488 ≤ length out.old }
-    ensures size { result.size ≡ length content.now }
-    ensures given { result.given ≤ length out.old }
-    ensures bytes { take result.given out.new ≡ take max content.now }
-    ensures rest { drop result.given out.new ≡ drop result.given out.old }
+/// Copies the first bytes of a piece to the front of `out`, as many as fit, and returns how many. The rest of `out` stays.
+fn append(piece: &[u8], out: &mut [u8]) -> usize
+    ensures count { result ≡ min (length out.old) (length piece.now) }
+    ensures bytes { take result out.new ≡ take (length out.old) piece.now }
+    ensures rest { drop result out.new ≡ drop result out.old }
 {
-    let size = content.len();
-    let first = &content[..size.min(max as usize)];
-    Got {
-        size: size as u32,
-        given: give(first, out).given,
-    }
+    let count = piece.len().min(out.len());
+    out[..count].copy_from_slice(&piece[..count]);
+    count
 }

@@ -1,15 +1,17 @@
 //! Requests that wait, and those that are complete.
 
-ghost use Rattle.std.specs.Prelude.{◌≡◌, ◌≤◌, ℕ, [], true, List, Some, IfSome, ◌&&◌, is_none, count_by, ◌==◌, option_map};
+ghost use Rattle.std.specs.Prelude.{◌≡◌, ◌≤◌, ℕ, [], true, List, Some, IfSome, ◌&&◌, is_none, option_map};
+ghost use Rattle.std.specs.List.{AllByRecursion};
 ghost use Rattle.board_model.specs.State.{Asked};
 ghost use Rattle.board_model.specs.Answer.{result_by};
-ghost use Rattle.buffer_book.specs.Book.{Book};
+ghost use Rattle.buffer_book.specs.Book.{Book, IsQueued};
 ghost use Rattle.request_set.specs.Requests.{IsPending, oldest_waiting, receives_at, request_of};
 ghost use Rattle.domain_parts.specs.Calls.{GivesTo, Lending, LendsLast, result_of_done};
 ghost use Rattle.mc_base.specs.declared.request.PacketId.{PacketId};
-ghost use Rattle.domain_parts.specs.InBook.{outcome_in};
+ghost use Rattle.domain_parts.specs.InBook.{frames_count, outcome_in};
 ghost use Rattle.domain_parts.specs.InRequests.{AreReceives, handed_by, handed_slots, is_among, slots_in, with_all_complete};
 
+use buffer_book::BufferBook;
 use mc_base::{Done, EndName, Local, MAX_REQUESTS, RequestId, Slot};
 use request_set::{Ask, Complete, RequestSet};
 
@@ -103,28 +105,32 @@ pub fn told(how: Complete) -> Done
     }
 }
 
-/// How many messages and packets from a peer complete requests hold.
-pub fn handed_from(requests: &RequestSet, peer: u8) -> u32
-    requires { AreReceives requests.now }
-    ensures { result ≡ count_by (λ s. s.peer == peer) (handed_slots requests.now.standing) }
+/// Counts the frames of the messages and packets from a peer that complete requests hold.
+pub fn handed_from(requests: &RequestSet, book: &BufferBook, peer: u8) -> u32
+    requires receives { AreReceives requests.now }
+    requires queued { AllByRecursion (IsQueued book.now) (handed_slots requests.now.standing) }
+    requires few { frames_count book.now peer (handed_slots requests.now.standing) ≤ 256 }
+    ensures { result ≡ frames_count book.now peer (handed_slots requests.now.standing) }
 {
     let mut count = 0;
     for at in 0..MAX_REQUESTS as u32 {
         let Some((_, _, complete)) = requests.listed(at) else {
             break;
         };
-        count += held_from(complete, peer);
+        count += held_from(complete, book, peer);
     }
     count
 }
 
-/// How many messages or packets from a peer a request holds.
-fn held_from(complete: Option<Complete>, peer: u8) -> u32
-    ensures count { result ≡ count_by (λ s. s.peer == peer) (slots_in complete) }
-    ensures most { result ≤ 1 }
+/// Counts the frames of the message or packet from a peer that a request holds.
+fn held_from(complete: Option<Complete>, book: &BufferBook, peer: u8) -> u32
+    requires { AllByRecursion (IsQueued book.now) (slots_in complete) }
+    ensures { result ≡ frames_count book.now peer (slots_in complete) }
 {
     match complete {
-        Some(Complete::Message(slot, _) | Complete::Packet(slot)) if slot.peer == peer => 1,
+        Some(Complete::Message(slot, _) | Complete::Packet(slot)) if slot.peer == peer => {
+            book.pieces(slot)
+        }
         _ => 0,
     }
 }

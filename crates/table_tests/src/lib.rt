@@ -1,9 +1,7 @@
-//! Tests of what a domain keeps: endpoints, buffers, queues, requests and its journal, by the public calls of these crates, in a
+//! Tests of what a domain keeps: endpoints, queues, requests and its journal, by the public calls of these crates, in a
 //! crate of their own so that each is proved once.
 #![tactic(auto)]
 
-#[cfg(test)]
-mod books;
 #[cfg(test)]
 mod endpoints;
 #[cfg(test)]

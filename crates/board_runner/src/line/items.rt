@@ -9,6 +9,7 @@ ghost use Rattle.board_runner.specs.Lines.{CallsDomain};
 
 use super::Made;
 use crate::answers::{of_packet, of_request, of_scalar, of_unit};
+use crate::packets::copy_packet;
 use domain_core::{Answer, CALL_BYTES, CALL_ENTRIES, Domain, Journal};
 use mc_base::{Bits, Local, NoMemory, PacketId};
 use station_ends::{StationRecv, StationSend};
@@ -44,7 +45,7 @@ pub fn receive_packet<'r>(
     journal.reserve(CALL_ENTRIES, CALL_BYTES)?;
     match domain.pkt_recv(journal, at) {
         Ok(packet) => Ok(Made {
-            answer: of_packet(domain.pkt_bytes(packet), out),
+            answer: of_packet(copy_packet(domain, packet, out), out),
             given: None,
             lent: Some(packet),
         }),

@@ -8,6 +8,7 @@ ghost use Rattle.board_runner.specs.Lines.{CallsDomain};
 
 use super::Made;
 use crate::answers::{of_request, of_test, of_tested_packet, of_unit};
+use crate::packets::copy_packet;
 use domain_core::{CALL_BYTES, CALL_ENTRIES, Domain, Journal};
 use mc_base::{Done, EndName, Local, NoMemory, RequestId};
 use station_ends::{StationRecv, StationSend};
@@ -61,7 +62,7 @@ pub fn test<'r>(
     let tested = domain.test(journal, id, out);
     if let Ok(Done::Packet(packet)) = tested {
         return Ok(Made {
-            answer: of_tested_packet(None, domain.pkt_bytes(packet), out),
+            answer: of_tested_packet(None, copy_packet(domain, packet, out), out),
             given: None,
             lent: Some(packet),
         });

@@ -17,6 +17,7 @@ use super::{Made, note_called};
 use crate::answers::{of_tested_packet, of_wait};
 use crate::carrying::carry_all;
 use crate::labels::{id_of, ids_of};
+use crate::packets::copy_packet;
 use crate::station::Station;
 use crate::stations::turn_alone;
 use arrayvec::ArrayVec;
@@ -289,7 +290,7 @@ fn ended_with<'r>(
 {
     if let Done::Packet(packet) = done {
         return Made {
-            answer: of_tested_packet(place, domain.pkt_bytes(packet), room),
+            answer: of_tested_packet(place, copy_packet(domain, packet, room), room),
             given: None,
             lent: Some(packet),
         };

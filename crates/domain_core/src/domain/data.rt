@@ -1,11 +1,11 @@
 //! The calls that send and receive packets and scalars, the items of channels.
 
-ghost use Rattle.std.specs.Prelude.{◌≡◌, ◌≤◌, ◌<◌, ◌+◌, ◌*◌, ◌^◌, ◌↔◌, IfErr, IfOk, IsErr, IsNone, None, Some, length, option_map};
+ghost use Rattle.std.specs.Prelude.{◌≡◌, ◌≤◌, ◌<◌, ◌+◌, ◌*◌, ◌^◌, ◌↔◌, IfErr, IfOk, IfSome, IsErr, IsNone, None, Some, length, option_and_then, option_map, slice_get};
 ghost use Rattle.mc_base.specs.declared.refusal.Refusal.TheVariants.{BufInvalid};
 ghost use Rattle.mc_base.specs.Letter.{bytes_of_bits};
 ghost use Rattle.board_model.specs.DomainCall.{lend_at, packet_from, packet_request_at, release_of, scalar_at, scalar_from};
 ghost use Rattle.domain_parts.specs.Calls.{Calls, IsLent, available, given, lent, requested, sent};
-ghost use Rattle.domain_parts.specs.DomainView.{packet_lent_as, place_of_packet_id};
+ghost use Rattle.domain_parts.specs.DomainView.{content_by, packet_lent_as, pieces_lent_as, place_of_packet_id};
 ghost use Rattle.domain_parts.specs.Ends.{EndsMoved};
 ghost use Rattle.domain_parts.specs.Room.{call_bytes, call_entries};
 
@@ -44,7 +44,8 @@ impl<S: SendEnd, R: RecvEnd> Domain<S, R> {
     }
 
     /// Receives the oldest packet that is queued at an endpoint, without a copy: the packet is lent, and keeps its buffer, until
-    /// [`release`](Domain::release). [`pkt_bytes`](Domain::pkt_bytes) returns its bytes.
+    /// [`release`](Domain::release). It came in one frame or several: [`pkt_pieces`](Domain::pkt_pieces) counts them, and
+    /// [`pkt_piece`](Domain::pkt_piece) returns the bytes of each.
     ///
     /// # Errors
     ///
@@ -87,21 +88,52 @@ impl<S: SendEnd, R: RecvEnd> Domain<S, R> {
         self.inside.begin_packet(at)
     }
 
-    /// Returns the bytes of a lent packet, 0 to 488, without a copy. It makes no turn.
+    /// Returns the bytes of the first piece of a lent packet, without a copy. It makes no turn.
     ///
     /// # Errors
     ///
     /// `BufInvalid` exactly where no lent packet has the id.
     pub fn pkt_bytes(&self, id: PacketId) -> Result<&[u8], Refusal>
-        ensures bytes { IfOk result (λ bytes. Some bytes.now ≡ option_map (λ p. p.item.content) (packet_lent_as self.now id)) }
+        ensures bytes { IfOk result (λ bytes. Some bytes.now ≡ option_and_then (λ ps. slice_get ps 0) (pieces_lent_as self.now id)) }
         ensures refused { IsErr result ↔ IsNone (packet_lent_as self.now id) }
         ensures word { IfErr result (λ word. word ≡ BufInvalid) }
-        ensures short { IfOk result (λ bytes. length bytes.now ≤ 488) }
     {
         self.inside.packet_bytes(id)
     }
 
-    /// Releases a lent packet, whose buffer is given back.
+    /// Returns the number of pieces of a lent packet: one for each frame that brought it, at least one. In order they are the packet's bytes, 0 to
+    /// 488 in all. It makes no turn.
+    ///
+    /// # Errors
+    ///
+    /// `BufInvalid` exactly where no lent packet has the id.
+    pub fn pkt_pieces(&self, id: PacketId) -> Result<u32, Refusal>
+        ensures count { IfOk result (λ n. Some n ≡ option_map length (pieces_lent_as self.now id)) }
+        ensures some { IfOk result (λ n. 0 < n) }
+        ensures whole { content_by (pieces_lent_as self.now id) ≡ option_map (λ p. p.item.content) (packet_lent_as self.now id) }
+        ensures short { IfSome (packet_lent_as self.now id) (λ p. length p.item.content ≤ 488) }
+        ensures refused { IsErr result ↔ IsNone (packet_lent_as self.now id) }
+        ensures word { IfErr result (λ word. word ≡ BufInvalid) }
+    {
+        self.inside.packet_pieces(id)
+    }
+
+    /// Returns the bytes of the n-th piece of a lent packet, counted from 0, without a copy. Where a lent packet has the id, n has to be below the
+    /// number of its pieces. It makes no turn.
+    ///
+    /// # Errors
+    ///
+    /// `BufInvalid` exactly where no lent packet has the id.
+    pub fn pkt_piece(&self, id: PacketId, n: u32) -> Result<&[u8], Refusal>
+        requires below { IfSome (pieces_lent_as self.now id) (λ ps. n < length ps) }
+        ensures bytes { IfOk result (λ bytes. Some bytes.now ≡ option_and_then (λ ps. slice_get ps n) (pieces_lent_as self.now id)) }
+        ensures refused { IsErr result ↔ IsNone (packet_lent_as self.now id) }
+        ensures word { IfErr result (λ word. word ≡ BufInvalid) }
+    {
+        self.inside.packet_piece(id, n)
+    }
+
+    /// Releases a lent packet. The buffers of its frames are given back, oldest first.
     ///
     /// # Errors
     ///

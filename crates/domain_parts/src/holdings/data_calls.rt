@@ -1,6 +1,6 @@
 //! The calls that send and receive items on channels, after their turns.
 
-ghost use Rattle.std.specs.Prelude.{[], ◌∷◌, ◌≡◌, ◌≤◌, ◌<◌, ◌+◌, ◌*◌, ◌^◌, ◌↔◌, map, false, true, nat_le, None, Some, IfErr, IfOk, IfSome, IsErr, IsNone, length, option_map};
+ghost use Rattle.std.specs.Prelude.{[], ◌∷◌, ◌≡◌, ◌≤◌, ◌<◌, ◌+◌, ◌*◌, ◌^◌, ◌↔◌, map, false, true, nat_le, None, Some, IfErr, IfOk, IfSome, IsErr, IsNone, length, min, option_and_then, option_map, slice_get, take};
 ghost use Rattle.mc_base.specs.Letter.{bytes_of_bits};
 ghost use Rattle.mc_base.specs.Limits.{request_limit};
 ghost use Rattle.mc_base.specs.declared.refusal.Refusal.TheVariants.{BufInvalid};
@@ -12,16 +12,17 @@ ghost use Rattle.board_model.specs.Serial.{put_entry};
 ghost use Rattle.board_model.specs.State.{place_at, queue_at};
 ghost use Rattle.domain_parts.specs.Calls.{IsLent, available, given, lent, requested, sent};
 ghost use Rattle.domain_parts.specs.CallSteps.{Acts, Succeeds};
-ghost use Rattle.domain_parts.specs.DomainView.{packet_lent_as, place_of_packet_id};
+ghost use Rattle.domain_parts.specs.DomainView.{content_by, packet_lent_as, pieces_lent_as, place_of_packet_id};
 ghost use Rattle.domain_parts.specs.Parts.{shown, state_of};
 ghost use Rattle.domain_parts.specs.Records.{slots_at};
 ghost use Rattle.domain_parts.specs.Steps.{Did, next_lent, oldest_lent};
 ghost use Rattle.mc_base.specs.declared.request.Slot.{Slot};
 
 use crate::holdings::Holdings;
+use crate::messages::give;
 use crate::peer_lane::PeerLane;
 use crate::peers::give_back_lent;
-use mc_base::{Bits, ITEM_SIZE, Kind, Letter, Local, PacketId, Refusal, RequestId};
+use mc_base::{Bits, Got, ITEM_SIZE, Kind, Letter, Local, PacketId, Refusal, RequestId};
 use mc_journal::Journal;
 use request_set::{Ask, Complete};
 use scalar_channel::read_scalar;
@@ -110,10 +111,14 @@ impl<P: PeerLane> Holdings<P> {
             return Err(Refusal::NotConnected);
         };
         channel.may_recv(Kind::Scalar, self.count_at(at, place))?;
-        let Some(bytes) = self.front(at, place) else {
+        let mut bytes = [0; 8];
+        let Some(got) = self.front(at, place, &mut bytes) else {
             return Err(Refusal::Empty);
         };
-        let Ok(value) = read_scalar(bits, bytes) else {
+        if got.size > 8 {
+            return Err(Refusal::SclSize);
+        }
+        let Ok(value) = read_scalar(bits, &bytes[..got.given as usize]) else {
             return Err(Refusal::SclSize);
         };
         self.drop_oldest(place);
@@ -185,14 +190,41 @@ impl<P: PeerLane> Holdings<P> {
         Some(id)
     }
 
-    /// The bytes of a lent packet.
+    /// The bytes of the first frame of a lent packet.
     pub fn packet_bytes(&self, id: PacketId) -> Result<&[u8], Refusal>
-        ensures bytes { IfOk result (λ bytes. Some bytes.now ≡ option_map (λ p. p.item.content) (packet_lent_as (shown self.now) id)) }
+        ensures bytes { IfOk result (λ bytes. Some bytes.now ≡ option_and_then (λ ps. slice_get ps 0) (pieces_lent_as (shown self.now) id)) }
         ensures refused { IsErr result ↔ IsNone (packet_lent_as (shown self.now) id) }
         ensures word { IfErr result (λ word. word ≡ BufInvalid) }
-        ensures short { IfOk result (λ bytes. length bytes.now ≤ 488) }
     {
         match self.book.lent_bytes(id) {
+            Ok(bytes) => Ok(bytes),
+            Err(_) => Err(Refusal::BufInvalid),
+        }
+    }
+
+    /// Counts the frames of a lent packet.
+    pub fn packet_pieces(&self, id: PacketId) -> Result<u32, Refusal>
+        ensures count { IfOk result (λ n. Some n ≡ option_map length (pieces_lent_as (shown self.now) id)) }
+        ensures some { IfOk result (λ n. 0 < n) }
+        ensures whole { content_by (pieces_lent_as (shown self.now) id) ≡ option_map (λ p. p.item.content) (packet_lent_as (shown self.now) id) }
+        ensures short { IfSome (packet_lent_as (shown self.now) id) (λ p. length p.item.content ≤ 488) }
+        ensures refused { IsErr result ↔ IsNone (packet_lent_as (shown self.now) id) }
+        ensures word { IfErr result (λ word. word ≡ BufInvalid) }
+    {
+        match self.book.lent_pieces(id) {
+            Ok(count) => Ok(count),
+            Err(_) => Err(Refusal::BufInvalid),
+        }
+    }
+
+    /// The bytes of the n-th frame of a lent packet, counted from 0.
+    pub fn packet_piece(&self, id: PacketId, n: u32) -> Result<&[u8], Refusal>
+        requires below { IfSome (pieces_lent_as (shown self.now) id) (λ ps. n < length ps) }
+        ensures bytes { IfOk result (λ bytes. Some bytes.now ≡ option_and_then (λ ps. slice_get ps n) (pieces_lent_as (shown self.now) id)) }
+        ensures refused { IsErr result ↔ IsNone (packet_lent_as (shown self.now) id) }
+        ensures word { IfErr result (λ word. word ≡ BufInvalid) }
+    {
+        match self.book.lent_piece(id, n) {
             Ok(bytes) => Ok(bytes),
             Err(_) => Err(Refusal::BufInvalid),
         }
@@ -210,14 +242,16 @@ impl<P: PeerLane> Holdings<P> {
         Ok(())
     }
 
-    /// The bytes of the oldest item at an endpoint, or `None` where none is queued there.
-    fn front(&self, at: Local, place: usize) -> Option<&[u8]>
+    /// Gives the first bytes of the oldest item at an endpoint, at most 8, or returns `None` where none is queued there.
+    fn front(&self, at: Local, place: usize, out: &mut [u8; 8]) -> Option<Got>
         requires there { place_at (state_of self.now.parts) at ≡ Some place }
         requires within { place < length self.now.parts.records.endpoints }
-        ensures front { option_map (λ bytes. bytes.now) result ≡ option_map (λ i. i.content) (oldest (queue_at (state_of self.now.parts) at)) }
-        ensures waits { IfSome result (λ bytes. 0 < length (slots_at self.now.parts.records place)) }
+        ensures size { option_map (λ got. got.size) result ≡ option_map (λ i. length i.content) (oldest (queue_at (state_of self.now.parts) at)) }
+        ensures bytes { IfSome result (λ got. Some (take got.given out.new) ≡ option_map (λ i. take 8 i.content) (oldest (queue_at (state_of self.now.parts) at))) }
+        ensures given { IfSome result (λ got. got.given ≡ min 8 got.size) }
+        ensures waits { IfSome result (λ got. 0 < length (slots_at self.now.parts.records place)) }
     {
         let slot = self.endpoints.oldest_at(place)?;
-        Some(self.book.bytes(slot))
+        Some(give(&self.book, slot, 8, out))
     }
 }

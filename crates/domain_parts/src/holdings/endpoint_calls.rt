@@ -1,11 +1,13 @@
 //! The calls that make and end endpoints, after their turns.
 
 ghost use Rattle.std.specs.Prelude.{◌≡◌, ◌<◌, ◌∷◌, [], None, Some, length};
+ghost use Rattle.std.specs.List.{AllByRecursion};
 ghost use Rattle.mc_base.specs.declared.request.Slot.{Slot};
 ghost use Rattle.board_model.specs.DomainCall.{create_at, delete_at};
 ghost use Rattle.board_model.specs.State.{place_at};
 ghost use Rattle.domain_parts.specs.Calls.{created, deleted};
 ghost use Rattle.domain_parts.specs.CallSteps.{Acts, drops};
+ghost use Rattle.domain_parts.specs.InBook.{frames_at};
 ghost use Rattle.domain_parts.specs.Parts.{state_of};
 ghost use Rattle.domain_parts.specs.Records.{slots_at};
 ghost use Rattle.domain_parts.specs.Steps.{Did, endpoint_gone, oldest_dropped};
@@ -57,7 +59,7 @@ impl<P: PeerLane> Holdings<P> {
         requires within { place < length self.old.parts.records.endpoints }
         ensures count { result ≡ length (slots_at self.old.parts.records place) }
         ensures none { slots_at self.new.parts.records place ≡ [] }
-        ensures did { Did P.Moved (drops place (slots_at self.old.parts.records place)) self.old self.new }
+        ensures did { Did P.Moved (drops self.old.parts.book place (slots_at self.old.parts.records place)) self.old self.new }
     {
         let count = self.endpoints.queued_at(place);
         for _ in 0..count {
@@ -66,10 +68,11 @@ impl<P: PeerLane> Holdings<P> {
         count
     }
 
-    /// Drops the oldest message that waits at a place, and gives its buffer back.
+    /// Drops the oldest message that waits at a place, and gives its buffers back.
     pub(super) fn drop_oldest(&mut self, place: usize)
         requires waits { 0 < length (slots_at self.old.parts.records place) }
-        ensures did { (s : Slot) × (slots_at self.old.parts.records place ≡ s ∷ slots_at self.new.parts.records place) × Did P.Moved (oldest_dropped place s ∷ []) self.old self.new }
+        ensures still { AllByRecursion (λ s. frames_at self.new.parts.book s ≡ frames_at self.old.parts.book s) (slots_at self.new.parts.records place) }
+        ensures did { (s : Slot) × (slots_at self.old.parts.records place ≡ s ∷ slots_at self.new.parts.records place) × Did P.Moved (oldest_dropped place s (frames_at self.old.parts.book s) ∷ []) self.old self.new }
     {
         let slot = self.endpoints.take_oldest(place).unwrap();
         give_back(&mut self.book, &mut self.peers, slot);

@@ -75,7 +75,7 @@ impl<P: PeerLane> Holdings<P> {
         Ok(got)
     }
 
-    /// Takes the best message at an endpoint, gives its first bytes, and gives its buffer back.
+    /// Takes the best message at an endpoint, gives its first bytes, and gives its buffers back.
     fn drop_best(&mut self, at: Local, place: usize, out: &mut [u8]) -> Option<Got>
         requires there { place_at (state_of self.old.parts) at ≡ Some place }
         requires within { place < length self.old.parts.records.endpoints }
@@ -88,7 +88,7 @@ impl<P: PeerLane> Holdings<P> {
         ensures rest { IfSome result (λ got. drop got.given out.new ≡ drop got.given out.old) }
     {
         let (slot, _) = self.endpoints.take_best(place)?;
-        let got = give(self.book.bytes(slot), out);
+        let got = give(&self.book, slot, out.len(), out);
         give_back(&mut self.book, &mut self.peers, slot);
         Some(got)
     }

@@ -12,7 +12,7 @@ ghost use Rattle.domain_parts.specs.Parts.{Sound, shown, state_of};
 ghost use Rattle.domain_parts.specs.Steps.{Did, request_begun};
 
 use crate::holdings::Holdings;
-use crate::messages::give_at_most;
+use crate::messages::give;
 use crate::peer_lane::PeerLane;
 use crate::peers::give_back;
 use crate::requests::told;
@@ -105,7 +105,8 @@ impl<P: PeerLane> Holdings<P> {
         let Complete::Message(slot, max) = how else {
             return Ok(told(how));
         };
-        let got = give_at_most(self.book.bytes(slot), max, out);
+        let most = out.len().min(max as usize);
+        let got = give(&self.book, slot, most, out);
         give_back(&mut self.book, &mut self.peers, slot);
         Ok(Done::Message(got))
     }

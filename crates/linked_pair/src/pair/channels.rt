@@ -1,13 +1,13 @@
 //! The calls of a pair on channels.
 
-ghost use Rattle.std.specs.Prelude.{◌≡◌, ◌↔◌, ◌≤◌, ◌<◌, ◌+◌, ◌*◌, ◌^◌, IfErr, IfOk, IsErr, IsNone, None, Some, option_map};
+ghost use Rattle.std.specs.Prelude.{◌≡◌, ◌↔◌, ◌≤◌, ◌<◌, ◌+◌, ◌*◌, ◌^◌, IfErr, IfOk, IfSome, IsErr, IsNone, None, Some, length, option_and_then, option_map, slice_get};
 ghost use Rattle.mc_base.specs.declared.channel.Side.TheVariants.{Receiver, Sender};
 ghost use Rattle.mc_base.specs.Letter.{bytes_of_bits};
 ghost use Rattle.board_model.specs.DomainCall.{connect_from, open_at, close_at, packet_from, lend_at, packet_request_at, release_of, scalar_at, scalar_from};
 ghost use Rattle.domain_core.specs.Room.{call_entries, call_bytes};
 ghost use Rattle.mc_base.specs.declared.refusal.Refusal.TheVariants.{BufInvalid};
 ghost use Rattle.domain_core.specs.Calls.{IsLent, connected, given_by, sent, deleted, available, lent, requested, given};
-ghost use Rattle.domain_core.specs.DomainView.{packet_lent_as, place_of_packet_id};
+ghost use Rattle.domain_core.specs.DomainView.{content_by, packet_lent_as, pieces_lent_as, place_of_packet_id};
 ghost use Rattle.linked_pair.specs.Pair.{CallsAt, domain_of};
 
 use crate::member::Which;
@@ -149,15 +149,42 @@ impl LinkedPair {
         }
     }
 
-    /// The bytes of a lent packet, as [`Domain::pkt_bytes`].
+    /// The bytes of the first piece of a lent packet, as [`Domain::pkt_bytes`].
     pub fn pkt_bytes(&self, which: Which, id: PacketId) -> Result<&[u8], Refusal>
-        ensures bytes { IfOk result (λ bytes. Some bytes.now ≡ option_map (λ p. p.item.content) (packet_lent_as (domain_of which self.now) id)) }
+        ensures bytes { IfOk result (λ bytes. Some bytes.now ≡ option_and_then (λ ps. slice_get ps 0) (pieces_lent_as (domain_of which self.now) id)) }
         ensures refused { IsErr result ↔ IsNone (packet_lent_as (domain_of which self.now) id) }
         ensures word { IfErr result (λ word. word ≡ BufInvalid) }
     {
         match which {
             Which::One => self.one.pkt_bytes(id),
             Which::Two => self.two.pkt_bytes(id),
+        }
+    }
+
+    /// The number of pieces of a lent packet, as [`Domain::pkt_pieces`].
+    pub fn pkt_pieces(&self, which: Which, id: PacketId) -> Result<u32, Refusal>
+        ensures count { IfOk result (λ n. Some n ≡ option_map length (pieces_lent_as (domain_of which self.now) id)) }
+        ensures some { IfOk result (λ n. 0 < n) }
+        ensures whole { content_by (pieces_lent_as (domain_of which self.now) id) ≡ option_map (λ p. p.item.content) (packet_lent_as (domain_of which self.now) id) }
+        ensures refused { IsErr result ↔ IsNone (packet_lent_as (domain_of which self.now) id) }
+        ensures word { IfErr result (λ word. word ≡ BufInvalid) }
+    {
+        match which {
+            Which::One => self.one.pkt_pieces(id),
+            Which::Two => self.two.pkt_pieces(id),
+        }
+    }
+
+    /// The bytes of the n-th piece of a lent packet, counted from 0, as [`Domain::pkt_piece`].
+    pub fn pkt_piece(&self, which: Which, id: PacketId, n: u32) -> Result<&[u8], Refusal>
+        requires below { IfSome (pieces_lent_as (domain_of which self.now) id) (λ ps. n < length ps) }
+        ensures bytes { IfOk result (λ bytes. Some bytes.now ≡ option_and_then (λ ps. slice_get ps n) (pieces_lent_as (domain_of which self.now) id)) }
+        ensures refused { IsErr result ↔ IsNone (packet_lent_as (domain_of which self.now) id) }
+        ensures word { IfErr result (λ word. word ≡ BufInvalid) }
+    {
+        match which {
+            Which::One => self.one.pkt_piece(id, n),
+            Which::Two => self.two.pkt_piece(id, n),
         }
     }
 

@@ -9,11 +9,11 @@ pub returns-in-Ok : goal.returns-in-Ok
 returns-in-Ok c =
     let made = c.pkt_recv.ensures.call in
     let call = lend_at c.args.at.port in
-    let bytes = c.pkt_bytes.ensures in
+    let copied = c.copy_packet.ensures in
     let told = c.of_packet.ensures in
     let s = made.turned_to.state in
-    calls_domain _ _ _ _ _ _ _ _ _ _ c.reserve.ensures.lines made (whole_told _ _ _ bytes.bytes bytes.refused.0 bytes.refused.1 bytes.word told.given told.refused ∙ sym (ap (λ r. lent r (packet_lent_as c.pkt_recv.new.self)) c.in-Ok.is)) refl (gives_none s c.args.at.node call refl)
-    (lends_added s c.args.at.node call c.args.domain.now.packets made.turned_to.packets c.pkt_recv.new.self.packets made.does.lent (Some c.in-Ok.packet) refl made.turns.packets made.does.packets c.in-Ok.ensures.lent) (omega (arith, told.within, c.requires))
+    calls_domain _ _ _ _ _ _ _ _ _ _ c.reserve.ensures.lines made (whole_told _ _ _ _ copied.bytes copied.within copied.refused.0 copied.refused.1 copied.word told.given told.refused ∙ sym (ap (λ r. lent r (packet_lent_as c.pkt_recv.new.self)) c.in-Ok.is)) refl (gives_none s c.args.at.node call refl)
+    (lends_added s c.args.at.node call c.args.domain.now.packets made.turned_to.packets c.pkt_recv.new.self.packets made.does.lent (Some c.in-Ok.packet) refl made.turns.packets made.does.packets c.in-Ok.ensures.lent) (omega (arith, told.within, c.requires, c.copy_packet.auto.out))
 
 pub returns-in-Err : goal.returns-in-Err
 returns-in-Err c =

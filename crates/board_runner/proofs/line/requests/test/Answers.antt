@@ -17,13 +17,13 @@ pub returns-in-Ok-Packet : goal.returns-in-Ok-Packet
 returns-in-Ok-Packet c node =
     let made = c.test-tested.ensures.call in
     let call = test_of (place_of_id c.args.domain.now.ids c.args.id) in
-    let bytes = c.pkt_bytes.ensures in
+    let copied = c.copy_packet.ensures in
     let told = c.of_tested_packet.ensures in
     let s = made.turned_to.state in
     let same : c.in-Ok-Packet.field-0 ≡ done.Packet c.in-Ok-Packet.packet = subst (λ r. (values_d (result_c.enum done_c.the_row refusal_c.the_row) 0 (done.Address 0, tt) r).0 ≡ done.Packet c.in-Ok-Packet.packet) c.in-Ok-Packet.is c.in-Ok-Packet.field-0-is in
     test_anywhere node _ _ _ _ _ _ (calls_domain _ _ _ _ _ _ _ _ _ _ c.reserve.ensures.lines made
-    (whole_brought None _ _ _ bytes.bytes bytes.refused.0 bytes.refused.1 bytes.word told.given told.refused ∙ (sym (ap (λ (d : Done). completes None (result_of_done d c.test-tested.new.out (packet_lent_as c.test-tested.new.self))) same) ∙ sym (ap (λ r. tested r c.test-tested.new.out (packet_lent_as c.test-tested.new.self)) c.in-Ok-Packet.is))) refl (gives_none s 0 call refl)
-    (lends_added s 0 call c.args.domain.now.packets made.turned_to.packets c.test-tested.new.self.packets made.does.lent (Some c.in-Ok-Packet.packet) refl made.turns.packets made.does.packets (subst (λ (d : Done). LendsBy c.args.domain.now c.test-tested.new.self d) same (subst (λ r. IfOk r (LendsBy c.args.domain.now c.test-tested.new.self)) c.in-Ok-Packet.is c.test-tested.ensures.lent))) (omega (arith, told.within, c.requires)))
+    (whole_brought None _ _ _ _ copied.bytes copied.within copied.refused.0 copied.refused.1 copied.word told.given told.refused ∙ (sym (ap (λ (d : Done). completes None (result_of_done d c.test-tested.new.out (packet_lent_as c.test-tested.new.self))) same) ∙ sym (ap (λ r. tested r c.test-tested.new.out (packet_lent_as c.test-tested.new.self)) c.in-Ok-Packet.is))) refl (gives_none s 0 call refl)
+    (lends_added s 0 call c.args.domain.now.packets made.turned_to.packets c.test-tested.new.self.packets made.does.lent (Some c.in-Ok-Packet.packet) refl made.turns.packets made.does.packets (subst (λ (d : Done). LendsBy c.args.domain.now c.test-tested.new.self d) same (subst (λ r. IfOk r (LendsBy c.args.domain.now c.test-tested.new.self)) c.in-Ok-Packet.is c.test-tested.ensures.lent))) (omega (arith, told.within, c.requires, c.test-tested.auto.out, c.copy_packet.auto.out)))
 
 pub returns : goal.returns
 returns c node =

@@ -100,11 +100,11 @@ returns-clause-acts g c =
     let put = frame_put d (made c.address_at-source.result (end g c).peer_address (letter_text c.closing_letter-letter.result)) in
     let set = channel_set i (kept c.closed.new.self) in
     let slots : slots_at c.put_letter.new.self.parts.records i ≡ ss = ap (λ (p : Parts). slots_at p.records i) c.put_letter.ensures.did.parts in
-    let emptied = subst (λ (xs : List Slot). Did M (put ∷ emptying side i at xs) old mid) slots (emptied-did M at i both side (put ∷ []) old c.put_letter.new.self mid c.put_letter.ensures.did c.empty_end-dropped.ensures.did) in
-    let did = did-then M both (put ∷ emptying side i at ss) (set ∷ []) old mid new emptied c.set_channel.ensures in
+    let emptied = subst (λ (x : Parts). Did M (put ∷ emptying x.book side i at (slots_at x.records i)) old mid) c.put_letter.ensures.did.parts (emptied-did M at i both side (put ∷ []) old c.put_letter.new.self mid c.put_letter.ensures.did c.empty_end-dropped.ensures.did) in
+    let did = did-then M both (put ∷ emptying old.parts.book side i at ss) (set ∷ []) old mid new emptied c.set_channel.ensures in
     let is =
-    ap (λ (f : List ℕ). frame_put d f ∷ (emptying side i at ss ++ set ∷ [])) (said g c)
-    ∙ ap (λ (o : Option Channel). frame_put d (frame g c) ∷ (emptying side i at ss ++ channel_set i o ∷ [])) (kept-as c.closed.new.self (closed_end (end g c)) c.closed.ensures.left)
+    ap (λ (f : List ℕ). frame_put d f ∷ (emptying old.parts.book side i at ss ++ set ∷ [])) (said g c)
+    ∙ ap (λ (o : Option Channel). frame_put d (frame g c) ∷ (emptying old.parts.book side i at ss ++ channel_set i o ∷ [])) (kept-as c.closed.new.self (closed_end (end g c)) c.closed.ensures.left)
     ∙ sym (close-steps old.parts c.in-Some.ensures.sound at i (there g c) (end g c) (has g c) c.address_at-source.result c.address_at-source.ensures (peer g c).0 (peer g c).1 side) in
     let answer = c.empty_end-dropped.ensures.count ∙ ap (λ (xs : List Slot). closed side (Ok (length xs))) slots ∙ close-answer old.parts at i (there g c) side in
     acts-done M at.node call old new (closed side (Ok c.empty_end-dropped.result)) None (unrefused g c) answer

@@ -19,6 +19,6 @@ returns-in-Receiver-clause-did g c =
     let old = c.args.self.now in
     let mid = c.end_receives.new.self in
     let new = c.drop_all.new.self in
-    let dropped = subst (λ (ss : List Slot). Did M (drops i ss) mid new) (ap (λ (x : Parts). slots_at x.records i) c.end_receives.ensures.parts) c.drop_all.ensures.did in
+    let dropped = subst (λ (x : Parts). Did M (drops x.book i (slots_at x.records i)) mid new) c.end_receives.ensures.parts c.drop_all.ensures.did in
     subst (λ (side : Side). Empties M side i c.args.at old new) (sym c.in-Receiver.is)
-    (did-then M g.met.P.PeerLane.both (receives_ended c.args.at ChanClosed ∷ []) (drops i (slots_at old.parts.records i)) old mid new c.end_receives.ensures dropped)
+    (did-then M g.met.P.PeerLane.both (receives_ended c.args.at ChanClosed ∷ []) (drops old.parts.book i (slots_at old.parts.records i)) old mid new c.end_receives.ensures dropped)

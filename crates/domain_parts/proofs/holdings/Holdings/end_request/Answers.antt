@@ -3,10 +3,12 @@ use Rattle.domain_parts.specs.Records.{with_last_lent}
 use Rattle.mc_base.specs.declared.name.Local.{Local}
 use Rattle.mc_base.specs.declared.request.RequestId.{RequestId}
 use Rattle.mc_base.specs.declared.request.PacketId.{PacketId}
-use Rattle.domain_parts.proofs.LendingMeaning.{some-of, tested-room, book-lent, packet-answer, packet-means, packet_ended-keeps}
+use Rattle.domain_parts.proofs.LendingMeaning.{tested-room, packet-answer, packet-means, packet_ended-keeps}
 use Rattle.request_set.specs.declared.ask.Complete.{Complete}
-use Rattle.std.proofs.Common.{rules, ◌≡◌, ◌∙◌, ◌∷◌, [], ℕ, List, length, take, ap, sym, refl, subst, Some, None, Option, ◌<◌}
-use Rattle.std.specs.Prelude.{Err, Ok}
+use Rattle.std.proofs.Common.{arith, rules, ◌≡◌, ◌≤◌, ◌∙◌, Bool, true, false, ◌∷◌, [], ℕ, List, length, take, ap, sym, refl, subst, Some, None, Option, ◌<◌}
+use Rattle.std.specs.Prelude.{Err, Ok, min, nat_le}
+use Rattle.std.proofs.lemmas.Bool.{leb-true, leb-false}
+use Rattle.std.proofs.lemmas.List.{take_all}
 use Rattle.std.specs.Vec.{with_items}
 use Rattle.std.proofs.lemmas.List.{with_items_is}
 use Rattle.mc_base.specs.declared.request.Slot.{Slot}
@@ -15,7 +17,7 @@ use Rattle.board_model.specs.DomainCall.{test_of}
 use Rattle.board_model.specs.Journal.{PlainAnswer, PlainResult, brought, completes}
 use Rattle.board_model.specs.State.{request_at_place}
 use Rattle.board_model.specs.Unnamed.{unnamed}
-use Rattle.buffer_book.specs.Book.{queued_at, kept_at, Book, IsQueued, Kept}
+use Rattle.buffer_book.specs.Book.{Book, IsQueued}
 use Rattle.request_set.specs.declared.ask.Complete.TheVariants as complete
 use Rattle.request_set.specs.Requests.{Requests, progress_of, without_request}
 use Rattle.domain_parts.specs.LaneSeen.{LaneSeen}
@@ -23,8 +25,8 @@ use Rattle.domain_parts.specs.declared.holdings.Holdings.TheInside.{Inside}
 use Rattle.domain_parts.specs.Calls.{result_of_done, tested, brings_whole, LendsLast}
 use Rattle.domain_parts.specs.CallSteps.{Acts, ending, how_held, Means}
 use Rattle.domain_parts.specs.DomainView.{place_of_id, packet_lent_as, place_of_packet_id}
-use Rattle.domain_parts.specs.GivingBack.{GivesBack, IsOutAt}
-use Rattle.domain_parts.specs.InBook.{content_in}
+use Rattle.domain_parts.specs.GivingBack.{AreOutAt, GivesBack}
+use Rattle.domain_parts.specs.InBook.{content_in, frames_at, whole_at}
 use Rattle.domain_parts.specs.InRequests.{handed_slots, AreReceives}
 use Rattle.domain_parts.specs.Parts.{Holding, Parts, Sound, holding_in, parts_in, peers_seen, plain, shown, state_of}
 use Rattle.domain_parts.specs.Steps.{Did, done, message_ended, request_ended, Step, without_at, next_lent, packet_ended}
@@ -33,7 +35,6 @@ use Rattle.domain_parts.proofs.Ending.{held-message, ids_in, quiet-items, quiet-
 use Rattle.domain_parts.proofs.GivingLemmas.{given-length}
 use Rattle.domain_parts.proofs.Meaning.{gone-there, held-there, quiet-means, tested-means}
 use Rattle.domain_parts.proofs.Placed.{HasMore}
-use Rattle.domain_parts.proofs.Queuing.{content-of}
 use Rattle.domain_parts.proofs.Receiving.{content-fits, held-out, held-queued, quiet-sound, tested-sound}
 use Rattle.domain_parts.proofs.Stepping.{Any, acts-done, acts-refused, given-moved, given-seen, gives-seen, out-unseen, quiet-moved, quiet-peers}
 use Rattle.domain_parts.proofs.holdings.Holdings.end_request.Given.{Over}
@@ -145,20 +146,32 @@ returns-in_default-how g c =
 
 -- ---- a message is given
 
-pub bytes-requires : goal.bytes-requires
-bytes-requires g c =
+-- more than all bytes are all
+take-most : (xs : List ℕ) (room max : ℕ) → length xs ≤ room → take (min room max) xs ≡ take max xs
+take-most xs room max fits = go (nat_le max room) refl
+  where
+    go : (b : Bool) → nat_le max room ≡ b → take (min room max) xs ≡ take max xs
+    go true le = ap (λ (k : ℕ). take k xs) (let l = leb-true max room le in omega (arith, l))
+    go false lt = let l = leb-false max room lt in take_all (min room max) xs (omega (arith, l, fits)) ∙ sym (take_all max xs (omega (arith, l, fits)))
+
+pub give-got-requires-clause-queued : goal.give-got-requires-clause-queued
+give-got-requires-clause-queued g c =
     let d = c.self.inside in
     let slot = c.in-Message.slot in
     let holds = held-message (progress_of d.requests c.args.id) c.in_ok-how.how slot c.in-Message.max (sym c.test.ensures.answer ∙ c.in_ok-how.was) c.in-Message.is in
     held-queued plain d.book d.endpoints d.requests d.table (p g d).peers c.args.id c.self.invariant slot (tested-fewer d.book d.requests (state_of (p g d)) refl c.args.id c.self.invariant.receives slot c.in-Message.max holds)
 
-pub give_at_most-got-requires-clause-size : goal.give_at_most-got-requires-clause-size
-give_at_most-got-requires-clause-size g c =
+pub give_back-requires-clause-queued : goal.give_back-requires-clause-queued
+give_back-requires-clause-queued g c =
     let d = c.self.inside in
     let slot = c.in-Message.slot in
     let holds = held-message (progress_of d.requests c.args.id) c.in_ok-how.how slot c.in-Message.max (sym c.test.ensures.answer ∙ c.in_ok-how.was) c.in-Message.is in
-    let out = held-out plain d.book d.endpoints d.requests d.table (p g d).peers c.args.id c.self.invariant slot (tested-fewer d.book d.requests (state_of (p g d)) refl c.args.id c.self.invariant.receives slot c.in-Message.max holds) in
-    content-fits plain d.book d.endpoints d.requests (p g d).peers slot c.bytes.result.now c.self.invariant.places out c.bytes.ensures
+    held-queued plain d.book d.endpoints d.requests d.table (p g d).peers c.args.id c.self.invariant slot (tested-fewer d.book d.requests (state_of (p g d)) refl c.args.id c.self.invariant.receives slot c.in-Message.max holds)
+
+pub give-got-requires-clause-short : goal.give-got-requires-clause-short
+give-got-requires-clause-short g c =
+    let d = c.self.inside in
+    content-fits plain d.book d.endpoints d.requests d.table (p g d).peers c.self.invariant c.in-Message.slot
 
 pub give_back-requires-clause-out : goal.give_back-requires-clause-out
 give_back-requires-clause-out g c =
@@ -166,7 +179,7 @@ give_back-requires-clause-out g c =
     let slot = c.in-Message.slot in
     let holds = held-message (progress_of d.requests c.args.id) c.in_ok-how.how slot c.in-Message.max (sym c.test.ensures.answer ∙ c.in_ok-how.was) c.in-Message.is in
     let out = held-out plain d.book d.endpoints d.requests d.table (p g d).peers c.args.id c.self.invariant slot (tested-fewer d.book d.requests (state_of (p g d)) refl c.args.id c.self.invariant.receives slot c.in-Message.max holds) in
-    subst (λ ps. IsOutAt (v g) slot ps) (sym c.deref_mut.ensures.value) (out-unseen (v g) slot d.peers.items out)
+    subst (λ ps. AreOutAt (v g) slot.peer (frames_at d.book slot) ps) (sym c.deref_mut.ensures.value) (out-unseen (v g) slot.peer (frames_at d.book slot) d.peers.items out)
 
 held : (g : Over) (c : goal.After-self-1 g) → progress_of c.self.inside.requests c.args.id ≡ Some (Some (complete.Message c.in-Message.slot c.in-Message.max))
 held g c = held-message (progress_of c.self.inside.requests c.args.id) c.in_ok-how.how c.in-Message.slot c.in-Message.max (sym c.test.ensures.answer ∙ c.in_ok-how.was) c.in-Message.is
@@ -179,31 +192,31 @@ fewer g c =
     let d = c.self.inside in
     tested-fewer d.book d.requests (state_of (p g d)) refl c.args.id c.self.invariant.receives c.in-Message.slot c.in-Message.max (held g c)
 
-its-out : (g : Over) (c : goal.After-self-1 g) → IsOutAt plain c.in-Message.slot (p g c.self.inside).peers
+its-out : (g : Over) (c : goal.After-self-1 g) → AreOutAt plain c.in-Message.slot.peer (frames_at c.self.inside.book c.in-Message.slot) (p g c.self.inside).peers
 its-out g c = let d = c.self.inside in held-out plain d.book d.endpoints d.requests d.table (p g d).peers c.args.id c.self.invariant c.in-Message.slot (fewer g c)
 
 -- the peers are those to which it was given back
-gave : (g : Over) (c : goal.After-self-1 g) → GivesBack g.P.PeerLane.Moved (v g) c.in-Message.slot c.self.inside.peers.items (with_items c.self.inside.peers c.give_back.new.peers).items
+gave : (g : Over) (c : goal.After-self-1 g) → GivesBack g.P.PeerLane.Moved (v g) c.in-Message.slot.peer (frames_at c.self.inside.book c.in-Message.slot) c.self.inside.peers.items (with_items c.self.inside.peers c.give_back.new.peers).items
 gave g c =
     let d = c.self.inside in
     let M = g.P.PeerLane.Moved in
-    let gives = subst (λ ps. GivesBack M (v g) c.in-Message.slot ps c.give_back.new.peers) c.deref_mut.ensures.value c.give_back.ensures.gives in
-    subst (λ ps. GivesBack M (v g) c.in-Message.slot d.peers.items ps) (sym (with_items_is d.peers c.give_back.new.peers (given-length M (v g) c.in-Message.slot d.peers.items c.give_back.new.peers gives ∙ sym d.peers.ok.0))) gives
+    let gives = subst (λ ps. GivesBack M (v g) c.in-Message.slot.peer (frames_at d.book c.in-Message.slot) ps c.give_back.new.peers) c.deref_mut.ensures.value c.give_back.ensures.gives in
+    subst (λ ps. GivesBack M (v g) c.in-Message.slot.peer (frames_at d.book c.in-Message.slot) d.peers.items ps) (sym (with_items_is d.peers c.give_back.new.peers (given-length M (v g) c.in-Message.slot.peer (frames_at d.book c.in-Message.slot) d.peers.items c.give_back.new.peers gives ∙ sym d.peers.ok.0))) gives
 
-after : (g : Over) (c : goal.After-self-1 g) → parts_in (v g) c.give_back.new.book c.self.inside.endpoints c.test.new.self c.self.inside.table (with_items c.self.inside.peers c.give_back.new.peers).items ≡ done (message_ended (place_of_id (ids_in c.self.inside.requests) c.args.id) c.in-Message.slot) (p g c.self.inside)
+after : (g : Over) (c : goal.After-self-1 g) → parts_in (v g) c.give_back.new.book c.self.inside.endpoints c.test.new.self c.self.inside.table (with_items c.self.inside.peers c.give_back.new.peers).items ≡ done (message_ended (place_of_id (ids_in c.self.inside.requests) c.args.id) c.in-Message.slot (frames_at c.self.inside.book c.in-Message.slot)) (p g c.self.inside)
 after g c =
     let d = c.self.inside in
     let b = c.give_back.ensures.book in
     let q = gone g c ∙ gone-there d.requests c.args.id c.self.invariant.receives in
-    let ps = given-seen (v g) g.P.PeerLane.Moved g.met.P.PeerLane.none c.in-Message.slot d.peers.items _ c.self.invariant.peers.rising (gave g c) in
+    let ps = given-seen (v g) g.P.PeerLane.Moved g.met.P.PeerLane.none c.in-Message.slot.peer (frames_at d.book c.in-Message.slot) d.peers.items _ c.self.invariant.peers.rising (gave g c) in
     cc
 
 pub invariant_of-self-2 : goal.invariant_of-self-2
 invariant_of-self-2 g c =
     let d = c.self.inside in
     subst Sound (sym (after g c))
-    (subst (λ (q : Requests). Sound (record (done (message_ended (place_of_id (ids_in d.requests) c.args.id) c.in-Message.slot) (p g d)) { requests = q })) (gone-there d.requests c.args.id c.self.invariant.receives)
-    (tested-sound plain d.book d.endpoints d.requests d.table (p g d).peers c.args.id c.self.invariant c.in-Message.slot (fewer g c) Any _ (gives-seen c.in-Message.slot (p g d).peers c.self.invariant.peers.rising (its-out g c))))
+    (subst (λ (q : Requests). Sound (record (done (message_ended (place_of_id (ids_in d.requests) c.args.id) c.in-Message.slot (frames_at d.book c.in-Message.slot)) (p g d)) { requests = q })) (gone-there d.requests c.args.id c.self.invariant.receives)
+    (tested-sound plain d.book d.endpoints d.requests d.table (p g d).peers c.args.id c.self.invariant c.in-Message.slot (fewer g c) Any _ (gives-seen c.in-Message.slot.peer (frames_at d.book c.in-Message.slot) (p g d).peers c.self.invariant.peers.rising (its-out g c))))
 
 pub returns-clause-acts : goal.returns-clause-acts
 returns-clause-acts g c =
@@ -216,18 +229,18 @@ returns-clause-acts g c =
     let slot = c.in-Message.slot in
     let max = c.in-Message.max in
     let receives = c.self.invariant.receives in
-    let told : PlainAnswer = completes None (brought c.give_at_most-got.result.size (take c.give_at_most-got.result.given c.give_at_most-got.new.out)) in
-    let content-is : content_in (kept_at b slot) ≡ c.bytes.result.now = content-of (kept_at b slot) c.bytes.result.now c.bytes.ensures in
+    let told : PlainAnswer = completes None (brought c.give-got.result.size (take c.give-got.result.given c.give-got.new.out)) in
+    let content = content_in (whole_at b slot) in
+    let short = content-fits plain b d.endpoints d.requests d.table (p g d).peers c.self.invariant slot in
     let answer : told ≡ completes None (result_of (request_at_place s place))
-    = ap (λ (k : ℕ). completes None (brought k (take c.give_at_most-got.result.given c.give_at_most-got.new.out))) c.give_at_most-got.ensures.size
-    ∙ ap (λ (bs : List ℕ). completes None (brought (length c.bytes.result.now) bs)) c.give_at_most-got.ensures.bytes
-    ∙ ap (λ (bs : List ℕ). completes None (brought (length bs) (take max bs))) (sym content-is)
+    = ap (λ (k : ℕ). completes None (brought k (take c.give-got.result.given c.give-got.new.out))) c.give-got.ensures.size
+    ∙ ap (λ (bs : List ℕ). completes None (brought (length content) bs)) (c.give-got.ensures.bytes ∙ ap (λ (k : ℕ). take k content) c.min-most.ensures ∙ take-most content (length c.args.out.now) max (omega (arith, short, c.requires)))
     ∙ ap (λ (r : PlainResult). completes None r) (sym (tested-result b d.requests s refl id receives slot max (held g c))) in
-    let ends : ending b place (how_held d.requests place) ≡ message_ended place slot = ap (ending b place) (held-there d.requests id (Some (complete.Message slot max)) (held g c)) in
+    let ends : ending b place (how_held d.requests place) ≡ message_ended place slot (frames_at b slot) = ap (ending b place) (held-there d.requests id (Some (complete.Message slot max)) (held g c)) in
     let more = subst (λ (q : Requests). HasMore slot (handed_slots q.standing) (handed_slots d.requests.standing)) (gone-there d.requests id receives) (fewer g c) in
     let old = holding_in (v g) d.book d.endpoints d.requests d.table d.peers.items in
     let new = holding_in (v g) c.give_back.new.book d.endpoints c.test.new.self d.table (with_items d.peers c.give_back.new.peers).items in
-    let did : Did M (message_ended place slot ∷ []) old new = record { parts = after g c; moved = given-moved (v g) M g.met.P.PeerLane.none slot d.peers.items _ c.self.invariant.peers.rising (gave g c) } in
+    let did : Did M (message_ended place slot (frames_at b slot) ∷ []) old new = record { parts = after g c; moved = given-moved (v g) M g.met.P.PeerLane.none slot.peer (frames_at d.book slot) d.peers.items _ c.self.invariant.peers.rising (gave g c) } in
     subst (λ (x : Holding g.row.P.Denot). Acts M 0 (test_of (place_of_id (shown x).ids id)) x new told None) c.self.view_is
     (acts-done M 0 (test_of place) old new told None (test-done b d.requests s refl id (complete.Message slot max) (held g c)) answer
     (record {
@@ -247,17 +260,14 @@ module _ (parts : Parts) (sound : Sound parts) (id : RequestId) (slot : Slot) (h
   its-queued : IsQueued parts.book slot
   its-queued = held-queued plain parts.book parts.records parts.requests parts.table parts.peers id sound slot its-fewer
 
-  its-kept : (k : Kept) × (queued_at parts.book slot ≡ Some k)
-  its-kept = some-of (queued_at parts.book slot) its-queued
-
   fewer-there : HasMore slot (handed_slots (without_at parts.requests at_place).standing) (handed_slots parts.requests.standing)
   fewer-there = subst (λ (q : Requests). HasMore slot (handed_slots q.standing) (handed_slots parts.requests.standing)) (gone-there parts.requests id sound.receives) its-fewer
 
   its-room : length parts.records.lent < parts.records.room
-  its-room = tested-room parts sound at_place slot its-kept.0 its-kept.1 fewer-there
+  its-room = tested-room parts sound at_place slot its-queued fewer-there
 
   lent-keeps : Sound (done (packet_ended at_place (next_lent parts.book slot)) parts)
-  lent-keeps = packet_ended-keeps parts sound at_place slot its-kept.0 its-kept.1 fewer-there (subst AreReceives (gone-there parts.requests id sound.receives) (left-receives parts.requests id sound.receives))
+  lent-keeps = packet_ended-keeps parts sound at_place slot its-queued fewer-there (subst AreReceives (gone-there parts.requests id sound.receives) (left-receives parts.requests id sound.receives))
 
   lent-ends : ending parts.book at_place (how_held parts.requests at_place) ≡ packet_ended at_place (next_lent parts.book slot)
   lent-ends = ap (ending parts.book at_place) (held-there parts.requests id (Some (complete.Packet slot)) holds)
@@ -269,10 +279,10 @@ module _ (parts : Parts) (sound : Sound parts) (id : RequestId) (slot : Slot) (h
   its-request = packet-request parts.book parts.requests (state_of parts) refl id sound.receives slot holds
 
   lent-means : Means parts 0 (test_of at_place) None
-  lent-means = packet-means parts sound at_place slot its-kept.0 its-kept.1 fewer-there its-at _ its-request lent-ends
+  lent-means = packet-means parts sound at_place slot its-queued fewer-there its-at _ its-request lent-ends
 
   lent-answer : brings_whole (packet_at_place_in (state_of (done (packet_ended at_place (next_lent parts.book slot)) parts)).lent (place_of_packet_id (done (packet_ended at_place (next_lent parts.book slot)) parts).records.lent (next_lent parts.book slot))) ≡ result_of (request_at_place (state_of parts) at_place)
-  lent-answer = packet-answer parts sound at_place slot its-kept.0 its-kept.1 fewer-there its-at _ its-request lent-ends
+  lent-answer = packet-answer parts sound at_place slot its-queued fewer-there its-at _ its-request lent-ends
 
 pub lend-packet-requires : goal.lend-packet-requires
 lend-packet-requires g c =
@@ -287,7 +297,7 @@ keep_lent-requires g c =
 after-lent : (g : Over) (c : goal.After-keep_lent g) → parts_in (v g) c.lend-packet.new.self c.keep_lent.new.self c.test.new.self c.self.inside.table c.self.inside.peers.items ≡ done (packet_ended (place_of_id (ids_in c.self.inside.requests) c.args.id) (next_lent c.self.inside.book c.in-Packet.slot)) (p g c.self.inside)
 after-lent g c =
     let d = c.self.inside in
-    let b = book-lent d.book c.lend-packet.new.self c.in-Packet.slot c.lend-packet.ensures.book in
+    let b = c.lend-packet.ensures.book in
     let r = c.keep_lent.ensures ∙ ap (λ (i : PacketId). with_last_lent d.endpoints i) c.lend-packet.ensures.id in
     let ended : c.test.new.self ≡ without_request d.requests c.args.id = rw c.in_ok-how.was at c.test.ensures.ended in
     let q = ended ∙ gone-there d.requests c.args.id c.self.invariant.receives in

@@ -9,7 +9,7 @@ use Rattle.domain_parts.specs.declared.holdings.Holdings.TheInside.{Inside}
 use Rattle.domain_parts.specs.Parts.{Holding, Parts, Sound, holding_in, parts_in, peers_seen}
 use Rattle.domain_parts.specs.Records.{Records, slots_at, waiting_in, with_last_lent}
 use Rattle.domain_parts.specs.Steps.{Did, done, next_lent, oldest_lent}
-use Rattle.domain_parts.proofs.LendingMeaning.{book-lent, oldest_lent-keeps, room-left}
+use Rattle.domain_parts.proofs.LendingMeaning.{oldest_lent-keeps, room-left}
 use Rattle.domain_parts.proofs.Steps.{oldest_dropped-left, oldest_dropped-queued}
 use Rattle.domain_parts.proofs.Stepping.{quiet-moved, quiet-peers}
 use Rattle.domain_parts.proofs.holdings.Holdings.lend_oldest.Given.{Over}
@@ -34,7 +34,7 @@ first g c = sym c.unwrap-slot.ensures ∙ c.take_oldest.ensures.oldest
 after : (g : Over) (c : goal.After-keep_lent g) → parts_in (v g) c.lend-packet.new.self c.keep_lent.new.self c.self.inside.requests c.self.inside.table c.self.inside.peers.items ≡ done (oldest_lent c.args.place (next_lent c.self.inside.book c.unwrap-slot.result)) (p g c.self.inside)
 after g c =
     let d = c.self.inside in
-    let b = book-lent d.book c.lend-packet.new.self c.unwrap-slot.result c.lend-packet.ensures.book in
+    let b = c.lend-packet.ensures.book in
     let r = c.keep_lent.ensures ∙ ap₂ (λ (x : Records) (i : PacketId). with_last_lent x i) c.take_oldest.ensures.rest c.lend-packet.ensures.id in
     let ps = sym (quiet-peers (peers_seen (v g) d.peers.items)) in
     cc

@@ -1,53 +1,64 @@
-use Rattle.std.proofs.Common.{◌≡◌, ◌≤◌, ◌∙◌, ℕ, true, false, List, Option, Some, None, ap, length, sym, refl, subst}
-use Rattle.std.specs.Prelude.{IsNone, option_map}
-use Rattle.board_model.specs.State.{LentPacket}
-use Rattle.buffer_book.specs.Book.{Kept, content, lent_as}
+use Rattle.std.proofs.Common.{◌≡◌, ◌≤◌, ◌<◌, ◌∙◌, ℕ, suc, true, false, List, Option, Some, None, ap, length, sym, refl, subst}
+use Rattle.std.specs.Prelude.{IfSome, IsNone, option_and_then, option_map, slice_get}
+use Rattle.board_model.specs.State.{LentPacket, packet_at_place}
+use Rattle.buffer_book.specs.Book.{Item, Kept, content, count_of, frame_at, lent_as}
 use Rattle.domain_parts.specs.declared.holdings.Holdings.TheInside.{Inside}
-use Rattle.domain_parts.specs.DomainView.{packet_lent_as, place_of_packet_id}
+use Rattle.domain_parts.specs.DomainView.{content_by, packet_lent_as, pieces_lent_as, place_of_packet_id}
 use Rattle.domain_parts.specs.Parts.{Holding, Parts, parts_in, shown, state_of}
 use Rattle.domain_parts.proofs.Unnaming.{lent-content, none-lent}
-use Rattle.domain_parts.proofs.Releasing.{lent-short, lent-told, none-told}
+use Rattle.domain_parts.proofs.LentPieces.{content-are, content_now, none-there, piece-is, pieces-are, pieces-many, pieces_now, short-is}
 use Rattle.domain_parts.proofs.holdings.Holdings.packet_bytes.Given.{Over}
 use Rattle.domain_parts.proofs.holdings.Holdings.packet_bytes.Goals as goal
 
 abbrev p : (g : Over) → Inside g.row.P.Denot → Parts
 p g d = parts_in g.P.PeerLane.seen d.book d.endpoints d.requests d.table d.peers.items
 
--- what is kept where bytes are told
-kept-of : (o : Option Kept) (xs : List ℕ) → Some xs ≡ option_map content o → (k : Kept) × (o ≡ Some k) × (xs ≡ content k)
-kept-of None xs is = absurd cc
-kept-of (Some k) xs is = (k, refl, cc)
+-- the item that has a piece
+item-of : {A : Type 0} (f : Item → Option A) (o : Option Item) (x : A) → Some x ≡ option_and_then f o → (i : Item) × (o ≡ Some i)
+item-of f None x is = absurd cc
+item-of f (Some i) x is = (i, refl)
 
+no-item : (o : Option Item) → IsNone o → o ≡ None
+no-item None none = refl
+no-item (Some i) none = absurd cc
+
+-- a packet with bytes is there
 not-none : (o : Option LentPacket) (xs : List ℕ) → option_map (λ (x : LentPacket). x.item.content) o ≡ Some xs → IsNone o → false ≡ true
 not-none None xs is none = absurd cc
 not-none (Some x) xs is none = absurd cc
 
-no-kept : (o : Option Kept) → IsNone o → o ≡ None
-no-kept None none = refl
-no-kept (Some k) none = absurd cc
-
-told : (g : Over) (c : goal.In-Ok g) → Some c.in-Ok.bytes.now ≡ option_map (λ (x : LentPacket). x.item.content) (packet_lent_as (shown c.args.self.now) c.args.id)
-told g c =
-    let d = c.self.inside in
-    let k = kept-of (lent_as d.book c.args.id) c.in-Ok.bytes.now c.in-Ok.ensures.content in
-    ap (λ (xs : List ℕ). Some xs) k.2 ∙ sym (lent-content (state_of (p g d)) (place_of_packet_id d.endpoints.lent c.args.id) ∙ lent-told (p g d) c.self.invariant c.args.id k.0 k.1)
-    ∙ ap (λ (x : Holding g.row.P.Denot). option_map (λ (y : LentPacket). y.item.content) (packet_lent_as (shown x) c.args.id)) c.self.view_is
-
-pub returns-in-Ok-clause-bytes : goal.returns-in-Ok-clause-bytes
-returns-in-Ok-clause-bytes g c = told g c
-
-pub returns-in-Ok-clause-refused : goal.returns-in-Ok-clause-refused
-returns-in-Ok-clause-refused g c = (λ e. absurd cc, not-none (packet_lent_as (shown c.args.self.now) c.args.id) c.in-Ok.bytes.now (sym (told g c)))
-
-pub returns-in-Ok-clause-short : goal.returns-in-Ok-clause-short
-returns-in-Ok-clause-short g c =
-    let d = c.self.inside in
-    let k = kept-of (lent_as d.book c.args.id) c.in-Ok.bytes.now c.in-Ok.ensures.content in
-    subst (λ (xs : List ℕ). length xs ≤ 488) (sym k.2) (lent-short (p g d) c.self.invariant c.args.id k.0 k.1)
+-- where nothing is lent under the id, no packet is
+nothing : (g : Over) (c : goal.In-Err g) → packet_at_place (state_of (p g c.self.inside)) (place_of_packet_id c.self.inside.endpoints.lent c.args.id) ≡ None
+nothing g c = ap (packet_at_place (state_of (p g c.self.inside))) (none-there (p g c.self.inside) c.self.invariant c.args.id (no-item (lent_as c.self.inside.book c.args.id) (c.in-Err.ensures.refused.0 refl)))
 
 pub returns-in-Err-clause-refused : goal.returns-in-Err-clause-refused
 returns-in-Err-clause-refused g c =
-    let d = c.self.inside in
-    let none = no-kept (lent_as d.book c.args.id) (c.in-Err.ensures.refused.0 refl) in
-    let nothing = none-lent (state_of (p g d)) (place_of_packet_id d.endpoints.lent c.args.id) (none-told (p g d) c.self.invariant c.args.id none) in
-    (λ e. subst (λ (x : Holding g.row.P.Denot). IsNone (packet_lent_as (shown x) c.args.id)) c.self.view_is (subst IsNone (sym nothing) refl), λ none. refl)
+    let unnamed = none-lent (state_of (p g c.self.inside)) (place_of_packet_id c.self.inside.endpoints.lent c.args.id) (nothing g c) in
+    (λ e. subst (λ (x : Holding g.row.P.Denot). IsNone (packet_lent_as (shown x) c.args.id)) c.self.view_is (subst IsNone (sym unnamed) refl), λ none. refl)
+
+-- the item that is lent
+lent : (g : Over) (c : goal.In-Ok g) → (i : Item) × (lent_as c.self.inside.book c.args.id ≡ Some i)
+lent g c = told-of (frame_at c.self.inside.book c.args.id.peer 0) (lent_as c.self.inside.book c.args.id) c.in-Ok.bytes.now c.in-Ok.ensures.content
+  where
+    told-of : (f : Item → Option Kept) (o : Option Item) (xs : List ℕ) → Some xs ≡ option_map content (option_and_then f o) → (i : Item) × (o ≡ Some i)
+    told-of f None xs is = absurd cc
+    told-of f (Some i) xs is = (i, refl)
+
+-- the packet has its bytes
+bytes : (g : Over) (c : goal.In-Ok g) → option_map (λ (x : LentPacket). x.item.content) (packet_lent_as (shown c.args.self.now) c.args.id) ≡ content_now (p g c.self.inside) c.self.invariant c.args.id
+bytes g c =
+    sym (ap (λ (x : Holding g.row.P.Denot). option_map (λ (y : LentPacket). y.item.content) (packet_lent_as (shown x) c.args.id)) c.self.view_is)
+    ∙ lent-content (state_of (p g c.self.inside)) (place_of_packet_id c.self.inside.endpoints.lent c.args.id)
+
+pub returns-in-Ok-clause-refused : goal.returns-in-Ok-clause-refused
+returns-in-Ok-clause-refused g c =
+    let i = lent g c in
+    (λ e. absurd cc, not-none (packet_lent_as (shown c.args.self.now) c.args.id) _ (bytes g c ∙ content-are (p g c.self.inside) c.self.invariant c.args.id i.0 i.1))
+
+pub returns-in-Ok-clause-bytes : goal.returns-in-Ok-clause-bytes
+returns-in-Ok-clause-bytes g c =
+    let i = lent g c in
+    c.in-Ok.ensures.content
+    ∙ ap (λ (o : Option Item). option_map content (option_and_then (frame_at c.self.inside.book c.args.id.peer 0) o)) i.1
+    ∙ sym (piece-is (p g c.self.inside) c.self.invariant c.args.id i.0 i.1 0)
+    ∙ ap (λ (x : Holding g.row.P.Denot). option_and_then (λ (ps : List (List ℕ)). slice_get ps 0) (pieces_lent_as (shown x) c.args.id)) c.self.view_is

@@ -1,12 +1,16 @@
-use Rattle.std.proofs.Common.{◌≡◌, ◌∙◌, ◌+◌, ap, sym, refl, subst, arith, map, ℕ, List, Option, Some, None, true, false, is_some}
+use Rattle.std.proofs.Common.{◌≡◌, ◌∙◌, ◌+◌, ◌≤◌, ap, sym, refl, subst, arith, map, ℕ, List, Option, Some, None, true, false, is_some}
 use Rattle.std.specs.Prelude.{Contains, IsNone, count_by, position, ◌==◌}
 use Rattle.board_model.specs.State.{lent_from, queued_from}
 use Rattle.domain_parts.specs.Parts.{state_of}
 use Rattle.domain_parts.proofs.Stepping.{sound-unseen, state-seen}
-use Rattle.domain_parts.specs.InPlaces.{is_of}
+use Rattle.domain_parts.specs.InBook.{frames_count}
 use Rattle.domain_parts.specs.InRequests.{handed_slots}
-use Rattle.domain_parts.specs.Records.{all_waiting}
-use Rattle.domain_parts.proofs.CountsFrom.{both-are, held-few, kept-from, lent-are, lent-within, lent-is, queued-is}
+use Rattle.domain_parts.specs.LaneSeen.{LaneSeen}
+use Rattle.domain_parts.specs.Records.{all_waiting, lent_slots}
+use Rattle.domain_parts.specs.Sound.{AreSound}
+use Rattle.domain_parts.specs.declared.holdings.Holdings.TheInside.{Inside}
+use Rattle.domain_parts.proofs.CountsFrom as counts
+use Rattle.domain_parts.proofs.CountsFrom.{handed-queued, held-few, lent-is, queue-from, queued-is}
 use Rattle.domain_parts.proofs.PeerPlaces.{contained-found, found-contained, number-place, numbers-in}
 use Rattle.domain_parts.proofs.Slots.{slots}
 use Rattle.domain_parts.proofs.holdings.Holdings.places.Given.{Over}
@@ -32,40 +36,50 @@ returns-in_err-place_of-clause-none g c =
 
 -- ---- a peer has it
 
+module _ (g : Over) (c : goal.After-places-held g) where
+  abbrev d : Inside g.row.P.Denot
+  d = c.self.inside
+
+  abbrev v : g.row.P.Denot → LaneSeen
+  v = g.P.PeerLane.seen
+
+  sound : AreSound v d.book d.endpoints d.requests d.table d.peers.items
+  sound = sound-unseen v d.book d.endpoints d.requests d.table d.peers.items c.self.invariant
+
+  found : Some c.in_ok-place_of.field-0 ≡ position (λ p. p.number == c.args.peer) d.peers.items
+  found = subst (λ ps. Some c.in_ok-place_of.field-0 ≡ position (λ p. p.number == c.args.peer) ps) c.deref.ensures.value c.in_ok-place_of.ensures.place
+
+  few : frames_count d.book c.args.peer (handed_slots d.requests.standing) + frames_count d.book c.args.peer (lent_slots d.endpoints) ≤ 256
+  few = held-few v d.book d.endpoints d.requests d.table d.peers.items sound c.args.peer c.in_ok-place_of.field-0 found
+
+pub handed_from-handed-requires-clause-queued : goal.handed_from-handed-requires-clause-queued
+handed_from-handed-requires-clause-queued g c =
+    let d = c.self.inside in
+    let v = g.P.PeerLane.seen in
+    handed-queued v d.book d.endpoints d.requests d.table d.peers.items (sound-unseen v d.book d.endpoints d.requests d.table d.peers.items c.self.invariant) c.args.peer
+
+pub handed_from-handed-requires-clause-few : goal.handed_from-handed-requires-clause-few
+handed_from-handed-requires-clause-few g c = omega (arith, few g c)
+
 -- the book has as many of it as wait and were handed
-all-are : (g : Over) (c : goal.After-struct_known-1 g) → c.places.result.queue ≡ count_by (is_of c.args.peer) (slots (all_waiting c.self.inside.endpoints.endpoints)) + count_by (is_of c.args.peer) (handed_slots c.self.inside.requests.standing)
-all-are g c =
-    let d = c.self.inside in
-    let v = g.P.PeerLane.seen in
-    let at = subst (λ ps. Some c.in_ok-place_of.field-0 ≡ position (λ p. p.number == c.args.peer) ps) c.deref.ensures.value c.in_ok-place_of.ensures.place in
-    c.places.ensures.queue ∙ kept-from v d.book d.endpoints d.requests d.table d.peers.items c.args.peer c.in_ok-place_of.field-0 at (sound-unseen v d.book d.endpoints d.requests d.table d.peers.items c.self.invariant) ∙ both-are c.args.peer d.endpoints d.requests
-
-are-all : (g : Over) (c : goal.After-lent_from g) → c.places.result.queue ≡ count_by (is_of c.args.peer) (slots (all_waiting c.self.inside.endpoints.endpoints)) + count_by (is_of c.args.peer) (handed_slots c.self.inside.requests.standing)
-are-all g c =
-    let d = c.self.inside in
-    let v = g.P.PeerLane.seen in
-    let at = subst (λ ps. Some c.in_ok-place_of.field-0 ≡ position (λ p. p.number == c.args.peer) ps) c.deref.ensures.value c.in_ok-place_of.ensures.place in
-    c.places.ensures.queue ∙ kept-from v d.book d.endpoints d.requests d.table d.peers.items c.args.peer c.in_ok-place_of.field-0 at (sound-unseen v d.book d.endpoints d.requests d.table d.peers.items c.self.invariant) ∙ both-are c.args.peer d.endpoints d.requests
-
 pub overflow_sub-result : goal.overflow_sub-result
-overflow_sub-result g c = omega (arith, all-are g c, c.handed_from-handed.ensures)
-
-pub lent_from-requires : goal.lent_from-requires
-lent_from-requires g c =
+overflow_sub-result g c =
     let d = c.self.inside in
     let v = g.P.PeerLane.seen in
-    let few = lent-within v d.book d.endpoints d.requests d.table d.peers.items (sound-unseen v d.book d.endpoints d.requests d.table d.peers.items c.self.invariant) in
-    omega (arith, few)
+    let sound = sound-unseen v d.book d.endpoints d.requests d.table d.peers.items c.self.invariant in
+    let held = c.places-held.ensures.queue ∙ queue-from v d.book d.endpoints d.requests d.table d.peers.items sound c.args.peer in
+    omega (arith, held, c.handed_from-handed.ensures)
 
+-- and as many as are lent
 pub overflow_add-result : goal.overflow_add-result
 overflow_add-result g c =
     let d = c.self.inside in
     let v = g.P.PeerLane.seen in
-    let at = subst (λ ps. Some c.in_ok-place_of.field-0 ≡ position (λ p. p.number == c.args.peer) ps) c.deref.ensures.value c.in_ok-place_of.ensures.place in
-    let few = held-few v d.book d.endpoints d.requests d.table d.peers.items c.args.peer c.in_ok-place_of.field-0 at (sound-unseen v d.book d.endpoints d.requests d.table d.peers.items c.self.invariant) in
-    let lends = lent-are c.args.peer d.endpoints in
-    let both = both-are c.args.peer d.endpoints d.requests in
-    omega (arith, few, lends, both, c.handed_from-handed.ensures, c.lent_from.ensures)
+    let sound = sound-unseen v d.book d.endpoints d.requests d.table d.peers.items c.self.invariant in
+    let held = c.places-held.ensures.lent ∙ counts.lent-from v d.book d.endpoints d.requests d.table d.peers.items sound c.args.peer in
+    let found : Some c.in_ok-place_of.field-0 ≡ position (λ p. p.number == c.args.peer) d.peers.items = subst (λ ps. Some c.in_ok-place_of.field-0 ≡ position (λ p. p.number == c.args.peer) ps) c.deref.ensures.value c.in_ok-place_of.ensures.place in
+    let few = held-few v d.book d.endpoints d.requests d.table d.peers.items sound c.args.peer c.in_ok-place_of.field-0 found in
+    omega (arith, few, held, c.handed_from-handed.ensures)
 
 pub returns-clause-none : goal.returns-clause-none
 returns-clause-none g c =
@@ -79,13 +93,17 @@ pub returns-clause-queue : goal.returns-clause-queue
 returns-clause-queue g c =
     let d = c.self.inside in
     let v = g.P.PeerLane.seen in
+    let sound = sound-unseen v d.book d.endpoints d.requests d.table d.peers.items c.self.invariant in
+    let held = c.places-held.ensures.queue ∙ queue-from v d.book d.endpoints d.requests d.table d.peers.items sound c.args.peer in
     let queued = queued-unnamed c.args.peer (state_of c.args.self.now.parts) ∙ sym (ap (λ s. queued_from c.args.peer s) (state-seen v d.book d.endpoints d.requests d.table d.peers.items) ∙ ap (λ x. queued_from c.args.peer (state_of x.parts)) c.self.view_is) ∙ queued-is v d.book d.endpoints d.requests d.table d.peers.items c.args.peer in
-    omega (arith, are-all g c, c.handed_from-handed.ensures, queued)
+    omega (arith, held, c.handed_from-handed.ensures, queued)
 
 pub returns-clause-lent : goal.returns-clause-lent
 returns-clause-lent g c =
     let d = c.self.inside in
     let v = g.P.PeerLane.seen in
+    let sound = sound-unseen v d.book d.endpoints d.requests d.table d.peers.items c.self.invariant in
+    let held = c.places-held.ensures.lent ∙ counts.lent-from v d.book d.endpoints d.requests d.table d.peers.items sound c.args.peer in
     let lent = lent-is v d.book d.endpoints d.requests d.table d.peers.items c.args.peer in
     let told = ap (λ s. lent_from c.args.peer s) (state-seen v d.book d.endpoints d.requests d.table d.peers.items) ∙ ap (λ x. lent_from c.args.peer (state_of x.parts)) c.self.view_is ∙ sym (lent-unnamed c.args.peer (state_of c.args.self.now.parts)) in
-    omega (arith, lent, told, c.handed_from-handed.ensures, c.lent_from.ensures)
+    omega (arith, lent, told, c.handed_from-handed.ensures, held)

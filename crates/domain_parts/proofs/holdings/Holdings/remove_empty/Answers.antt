@@ -1,8 +1,9 @@
-use Rattle.std.proofs.Common.{◌≡◌, ◌∙◌, ◌∷◌, [], Some, sym, refl, subst}
-use Rattle.std.specs.Prelude.{IsOk}
+use Rattle.std.proofs.Common.{◌≡◌, ◌∙◌, ◌∷◌, [], List, map, Some, sym, refl, subst}
+use Rattle.std.specs.Prelude.{IsOk, slice_get}
 use Rattle.board_model.specs.State.{place_at}
+use Rattle.message_queue.specs.Queue.{Waiting}
 use Rattle.domain_parts.specs.LaneSeen.{LaneSeen}
-use Rattle.domain_parts.specs.Records.{slots_at}
+use Rattle.domain_parts.specs.Records.{slots_at, waiting_in}
 use Rattle.domain_parts.specs.declared.holdings.Holdings.TheInside.{Inside}
 use Rattle.domain_parts.specs.Parts.{Holding, Parts, Sound, holding_in, parts_in, peers_seen, plain, state_of}
 use Rattle.domain_parts.specs.Steps.{Did, done, endpoint_gone}
@@ -49,3 +50,10 @@ returns g c =
 
 pub remove-requires-clause-within : goal.remove-requires-clause-within
 remove-requires-clause-within g c = place-within (p g c.self.inside) c.args.at c.args.place (subst (λ (x : Holding g.row.P.Denot). place_at (state_of x.parts) c.args.at ≡ Some c.args.place) (sym c.self.view_is) c.requires.there)
+
+no-one-waits : (ws : List Waiting) → map (λ (w : Waiting). w.slot) ws ≡ [] → ws ≡ []
+no-one-waits [] none = refl
+no-one-waits (w ∷ ws) none = absurd cc
+
+pub remove-requires-clause-empty : goal.remove-requires-clause-empty
+remove-requires-clause-empty g c = no-one-waits (waiting_in (slice_get c.self.inside.endpoints.endpoints c.args.place)) (subst (λ (x : Holding g.row.P.Denot). slots_at x.parts.records c.args.place ≡ []) (sym c.self.view_is) c.requires.empty)

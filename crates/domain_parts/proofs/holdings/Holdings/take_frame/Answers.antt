@@ -1,10 +1,10 @@
-use Rattle.std.proofs.Common.{◌≡◌, ◌∙◌, ◌<◌, ◌++◌, ◌∷◌, [], List, ℕ, ap, arith, length, subst, sym, take}
-use Rattle.std.specs.Prelude.{Some, slice_set}
+use Rattle.std.proofs.Common.{refl, ◌≡◌, ◌∙◌, ◌<◌, ◌++◌, ◌∷◌, [], List, ℕ, ap, arith, length, subst, sym, take}
+use Rattle.std.specs.Prelude.{IsNone, Some, slice_set}
 use Rattle.std.proofs.lemmas.List.{length-map}
 use Rattle.mc_base.specs.declared.fate.Fate.{Fate}
 use Rattle.mc_base.specs.declared.request.Slot.{Slot}
 use Rattle.board_model.specs.Journal.{take_line}
-use Rattle.buffer_book.specs.Book.{queued_in, with_queued}
+use Rattle.buffer_book.specs.Book.{kept_in_buffer, with_queued}
 use Rattle.message_queue.specs.Queue.{waiting}
 use Rattle.request_set.specs.declared.ask.Complete.{Complete}
 use Rattle.domain_parts.specs.InRequests.{handed_by}
@@ -17,7 +17,7 @@ use Rattle.domain_parts.specs.LaneSeen.{LaneSeen}
 use Rattle.domain_parts.specs.Parts.{Holding, Parts, holding_in, parts_in, state_of}
 use Rattle.domain_parts.specs.Records.{with_waiting_at, all_waiting}
 use Rattle.domain_parts.specs.Verdicts.{Desk, IsVerdict, desk, fate_of}
-use Rattle.domain_parts.proofs.Taking.{away-slot, back-keeps, back-takes, given-out, handed-keeps, handed-takes, queued-keeps, queued-takes, room-left, shows}
+use Rattle.domain_parts.proofs.Taking.{away-slot, unqueued-slot, back-keeps, back-takes, given-out, handed-keeps, handed-takes, queued-keeps, queued-takes, room-left, shows}
 use Rattle.domain_parts.proofs.Turning.{there-read}
 use Rattle.domain_parts.proofs.holdings.Holdings.take_frame.Given.{Over}
 use Rattle.domain_parts.proofs.holdings.Holdings.take_frame.Goals as goal
@@ -43,6 +43,20 @@ enqueue-slot-requires-clause-away g c =
     let all = subst (λ (f : List ℕ). IsVerdict (state_of (p g d)) (Some c.take-buffer.result.0.number) x.number f c.deal-verdict.result (desk d.endpoints d.requests x.known x.replies) (desk c.deal-verdict.new.endpoints c.deal-verdict.new.requests c.deal-verdict.new.known c.deal-verdict.new.replies)) frame (c.deal-verdict.ensures d.book (state_of (p g d)) (Some c.take-buffer.result.0.number) (shows g.P.PeerLane.Moved g.met.P.PeerLane.none (v g) d.book d.endpoints d.requests d.table d.peers.items c.self.invariant c.args.place x at c.take-buffer.result.0 c.take-buffer.result.1 lines lines')) in
     let is = rw c.in-Queued.is at all in
     away-slot g.P.PeerLane.Moved g.met.P.PeerLane.none (v g) d.book d.endpoints d.requests d.table d.peers.items c.self.invariant c.args.place x at c.take-buffer.result.0 c.take-buffer.result.1 lines lines' c.take-buffer.new.self took.seen took.moved took.apart
+
+pub enqueue-slot-requires-clause-unqueued : goal.enqueue-slot-requires-clause-unqueued
+enqueue-slot-requires-clause-unqueued g c =
+    let d = c.self.inside in
+    let x = c.index_mut-peer.result.now in
+    let at = there-read (v g) d.book d.endpoints d.requests d.table d.peers.items c.args.place x (subst (λ (h : Holding g.row.P.Denot). c.args.place < length h.parts.peers) (sym c.self.view_is) c.requires.within) c.index_mut-peer.ensures.value in
+    let lines = c.args.journal.now.lines in
+    let lines' = c.note.new.self.lines in
+    let bytes = take c.take-buffer.result.1 c.take-buffer.result.0.bytes in
+    let frame : c.split_at.result.0.now ≡ bytes = c.split_at.ensures.front ∙ ap (take c.take-buffer.result.1) c.bytes.ensures.value in
+    let took = c.take-buffer.ensures in
+    let all = subst (λ (f : List ℕ). IsVerdict (state_of (p g d)) (Some c.take-buffer.result.0.number) x.number f c.deal-verdict.result (desk d.endpoints d.requests x.known x.replies) (desk c.deal-verdict.new.endpoints c.deal-verdict.new.requests c.deal-verdict.new.known c.deal-verdict.new.replies)) frame (c.deal-verdict.ensures d.book (state_of (p g d)) (Some c.take-buffer.result.0.number) (shows g.P.PeerLane.Moved g.met.P.PeerLane.none (v g) d.book d.endpoints d.requests d.table d.peers.items c.self.invariant c.args.place x at c.take-buffer.result.0 c.take-buffer.result.1 lines lines')) in
+    let is = rw c.in-Queued.is at all in
+    subst IsNone (sym (unqueued-slot g.P.PeerLane.Moved g.met.P.PeerLane.none (v g) d.book d.endpoints d.requests d.table d.peers.items c.self.invariant c.args.place x at c.take-buffer.result.0 c.take-buffer.result.1 lines lines' c.take-buffer.new.self took.seen took.moved took.apart)) refl
 
 pub enqueue-slot-requires-clause-inside : goal.enqueue-slot-requires-clause-inside
 enqueue-slot-requires-clause-inside g c =
@@ -100,7 +114,7 @@ invariant_of-self g c =
     let all = subst (λ (f : List ℕ). IsVerdict (state_of (p g d)) (Some c.take-buffer.result.0.number) x.number f c.deal-verdict.result (desk d.endpoints d.requests x.known x.replies) (desk c.deal-verdict.new.endpoints c.deal-verdict.new.requests c.deal-verdict.new.known c.deal-verdict.new.replies)) frame (c.deal-verdict.ensures d.book (state_of (p g d)) (Some c.take-buffer.result.0.number) (shows g.P.PeerLane.Moved g.met.P.PeerLane.none (v g) d.book d.endpoints d.requests d.table d.peers.items c.self.invariant c.args.place x at c.take-buffer.result.0 c.take-buffer.result.1 lines lines')) in
     let is = rw c.in-Queued.is at all in
     let records = c.queue_last.ensures ∙ ap (λ (z : Desk). with_waiting_at z.records c.in-Queued.at (waiting c.enqueue-slot.result c.in-Queued.priority)) is.3 ∙ ap (λ (s : Slot). with_waiting_at d.endpoints c.in-Queued.at (waiting s c.in-Queued.priority)) c.enqueue-slot.ensures.slot in
-    let book = c.enqueue-slot.ensures.book ∙ ap (λ (s : Slot). with_queued d.book s (queued_in c.take-buffer.result.0 24 c.in-Queued.size)) c.enqueue-slot.ensures.slot in
+    let book = c.enqueue-slot.ensures.book ∙ ap (λ (s : Slot). with_queued d.book s (kept_in_buffer c.take-buffer.result.0 24 c.in-Queued.size)) c.enqueue-slot.ensures.slot in
     queued-keeps g.P.PeerLane.Moved g.met.P.PeerLane.none (v g) d.book d.endpoints d.requests d.table d.peers.items c.self.invariant c.args.place x at c.take-buffer.result.0 c.take-buffer.result.1 lines lines' c.take-buffer.new.self took.seen took.moved took.apart c.in-Queued.size is.1 c.enqueue-slot.new.self book c.deal-verdict.new.known (ap (λ (z : Desk). z.names) is.3) c.deal-verdict.new.replies (ap (λ (z : Desk). z.replies) is.3) c.in-Queued.at c.in-Queued.priority is.0 is.2 c.queue_last.new.self c.deal-verdict.new.requests records (ap (λ (z : Desk). z.requests) is.3)
 
 pub returns-in-Queued-clause-takes : goal.returns-in-Queued-clause-takes
@@ -117,7 +131,7 @@ returns-in-Queued-clause-takes g c =
     let is = rw c.in-Queued.is at all in
     let told = c.note.ensures.lines ∙ ap (λ (f : List ℕ). lines ++ take_line x.number f c.fate-fate.result ∷ []) frame ∙ ap (λ (w : Fate). lines ++ take_line x.number bytes w ∷ []) (c.fate-fate.ensures ∙ ap fate_of c.in-Queued.is) in
     let records = c.queue_last.ensures ∙ ap (λ (z : Desk). with_waiting_at z.records c.in-Queued.at (waiting c.enqueue-slot.result c.in-Queued.priority)) is.3 ∙ ap (λ (s : Slot). with_waiting_at d.endpoints c.in-Queued.at (waiting s c.in-Queued.priority)) c.enqueue-slot.ensures.slot in
-    let book = c.enqueue-slot.ensures.book ∙ ap (λ (s : Slot). with_queued d.book s (queued_in c.take-buffer.result.0 24 c.in-Queued.size)) c.enqueue-slot.ensures.slot in
+    let book = c.enqueue-slot.ensures.book ∙ ap (λ (s : Slot). with_queued d.book s (kept_in_buffer c.take-buffer.result.0 24 c.in-Queued.size)) c.enqueue-slot.ensures.slot in
     subst (λ (h : Holding g.row.P.Denot). Takes g.P.PeerLane.Moved c.args.place 1 h (holding_in (v g) c.enqueue-slot.new.self c.queue_last.new.self c.deal-verdict.new.requests d.table (slice_set d.peers.items c.args.place (record x { ends = c.take-buffer.new.self; known = c.deal-verdict.new.known; replies = c.deal-verdict.new.replies }))) lines lines') c.self.view_is
     (queued-takes g.P.PeerLane.Moved g.met.P.PeerLane.none (v g) d.book d.endpoints d.requests d.table d.peers.items c.self.invariant c.args.place x at c.take-buffer.result.0 c.take-buffer.result.1 lines lines' c.take-buffer.new.self took.seen took.moved took.apart c.in-Queued.size is.1 c.enqueue-slot.new.self book c.deal-verdict.new.known (ap (λ (z : Desk). z.names) is.3) c.deal-verdict.new.replies (ap (λ (z : Desk). z.replies) is.3) c.in-Queued.at c.in-Queued.priority is.0 is.2 c.queue_last.new.self c.deal-verdict.new.requests records (ap (λ (z : Desk). z.requests) is.3) told)
 
@@ -136,6 +150,20 @@ enqueue-slot-requires-in-Handed-clause-away g c =
     let all = subst (λ (f : List ℕ). IsVerdict (state_of (p g d)) (Some c.take-buffer.result.0.number) x.number f c.deal-verdict.result (desk d.endpoints d.requests x.known x.replies) (desk c.deal-verdict.new.endpoints c.deal-verdict.new.requests c.deal-verdict.new.known c.deal-verdict.new.replies)) frame (c.deal-verdict.ensures d.book (state_of (p g d)) (Some c.take-buffer.result.0.number) (shows g.P.PeerLane.Moved g.met.P.PeerLane.none (v g) d.book d.endpoints d.requests d.table d.peers.items c.self.invariant c.args.place x at c.take-buffer.result.0 c.take-buffer.result.1 lines lines')) in
     let is = rw c.in-Handed.is at all in
     away-slot g.P.PeerLane.Moved g.met.P.PeerLane.none (v g) d.book d.endpoints d.requests d.table d.peers.items c.self.invariant c.args.place x at c.take-buffer.result.0 c.take-buffer.result.1 lines lines' c.take-buffer.new.self took.seen took.moved took.apart
+
+pub enqueue-slot-requires-in-Handed-clause-unqueued : goal.enqueue-slot-requires-in-Handed-clause-unqueued
+enqueue-slot-requires-in-Handed-clause-unqueued g c =
+    let d = c.self.inside in
+    let x = c.index_mut-peer.result.now in
+    let at = there-read (v g) d.book d.endpoints d.requests d.table d.peers.items c.args.place x (subst (λ (h : Holding g.row.P.Denot). c.args.place < length h.parts.peers) (sym c.self.view_is) c.requires.within) c.index_mut-peer.ensures.value in
+    let lines = c.args.journal.now.lines in
+    let lines' = c.note.new.self.lines in
+    let bytes = take c.take-buffer.result.1 c.take-buffer.result.0.bytes in
+    let frame : c.split_at.result.0.now ≡ bytes = c.split_at.ensures.front ∙ ap (take c.take-buffer.result.1) c.bytes.ensures.value in
+    let took = c.take-buffer.ensures in
+    let all = subst (λ (f : List ℕ). IsVerdict (state_of (p g d)) (Some c.take-buffer.result.0.number) x.number f c.deal-verdict.result (desk d.endpoints d.requests x.known x.replies) (desk c.deal-verdict.new.endpoints c.deal-verdict.new.requests c.deal-verdict.new.known c.deal-verdict.new.replies)) frame (c.deal-verdict.ensures d.book (state_of (p g d)) (Some c.take-buffer.result.0.number) (shows g.P.PeerLane.Moved g.met.P.PeerLane.none (v g) d.book d.endpoints d.requests d.table d.peers.items c.self.invariant c.args.place x at c.take-buffer.result.0 c.take-buffer.result.1 lines lines')) in
+    let is = rw c.in-Handed.is at all in
+    subst IsNone (sym (unqueued-slot g.P.PeerLane.Moved g.met.P.PeerLane.none (v g) d.book d.endpoints d.requests d.table d.peers.items c.self.invariant c.args.place x at c.take-buffer.result.0 c.take-buffer.result.1 lines lines' c.take-buffer.new.self took.seen took.moved took.apart)) refl
 
 pub enqueue-slot-requires-in-Handed-clause-inside : goal.enqueue-slot-requires-in-Handed-clause-inside
 enqueue-slot-requires-in-Handed-clause-inside g c =
@@ -178,7 +206,7 @@ invariant_of-self-in-Handed g c =
     let all = subst (λ (f : List ℕ). IsVerdict (state_of (p g d)) (Some c.take-buffer.result.0.number) x.number f c.deal-verdict.result (desk d.endpoints d.requests x.known x.replies) (desk c.deal-verdict.new.endpoints c.deal-verdict.new.requests c.deal-verdict.new.known c.deal-verdict.new.replies)) frame (c.deal-verdict.ensures d.book (state_of (p g d)) (Some c.take-buffer.result.0.number) (shows g.P.PeerLane.Moved g.met.P.PeerLane.none (v g) d.book d.endpoints d.requests d.table d.peers.items c.self.invariant c.args.place x at c.take-buffer.result.0 c.take-buffer.result.1 lines lines')) in
     let is = rw c.in-Handed.is at all in
     let requests = c.complete.ensures ∙ ap (λ (h : Complete). with_complete c.deal-verdict.new.requests c.in-Handed.id h) c.handed.ensures ∙ ap (λ (s : Slot). with_complete c.deal-verdict.new.requests c.in-Handed.id (handed_by c.in-Handed.ask s)) c.enqueue-slot-in-Handed.ensures.slot ∙ ap (λ (z : Desk). with_complete z.requests c.in-Handed.id (handed_by c.in-Handed.ask (slot_at x.number c.take-buffer.result.0.number))) is.2 in
-    let book = c.enqueue-slot-in-Handed.ensures.book ∙ ap (λ (s : Slot). with_queued d.book s (queued_in c.take-buffer.result.0 24 c.in-Handed.size)) c.enqueue-slot-in-Handed.ensures.slot in
+    let book = c.enqueue-slot-in-Handed.ensures.book ∙ ap (λ (s : Slot). with_queued d.book s (kept_in_buffer c.take-buffer.result.0 24 c.in-Handed.size)) c.enqueue-slot-in-Handed.ensures.slot in
     handed-keeps g.P.PeerLane.Moved g.met.P.PeerLane.none (v g) d.book d.endpoints d.requests d.table d.peers.items c.self.invariant c.args.place x at c.take-buffer.result.0 c.take-buffer.result.1 lines lines' c.take-buffer.new.self took.seen took.moved took.apart c.in-Handed.size is.1 c.enqueue-slot-in-Handed.new.self book c.deal-verdict.new.known (ap (λ (z : Desk). z.names) is.2) c.deal-verdict.new.replies (ap (λ (z : Desk). z.replies) is.2) c.in-Handed.id c.in-Handed.ask is.0 c.deal-verdict.new.endpoints c.complete.new.self (ap (λ (z : Desk). z.records) is.2) requests
 
 pub returns-in-Handed-clause-takes : goal.returns-in-Handed-clause-takes
@@ -195,7 +223,7 @@ returns-in-Handed-clause-takes g c =
     let is = rw c.in-Handed.is at all in
     let told = c.note.ensures.lines ∙ ap (λ (f : List ℕ). lines ++ take_line x.number f c.fate-fate.result ∷ []) frame ∙ ap (λ (w : Fate). lines ++ take_line x.number bytes w ∷ []) (c.fate-fate.ensures ∙ ap fate_of c.in-Handed.is) in
     let requests = c.complete.ensures ∙ ap (λ (h : Complete). with_complete c.deal-verdict.new.requests c.in-Handed.id h) c.handed.ensures ∙ ap (λ (s : Slot). with_complete c.deal-verdict.new.requests c.in-Handed.id (handed_by c.in-Handed.ask s)) c.enqueue-slot-in-Handed.ensures.slot ∙ ap (λ (z : Desk). with_complete z.requests c.in-Handed.id (handed_by c.in-Handed.ask (slot_at x.number c.take-buffer.result.0.number))) is.2 in
-    let book = c.enqueue-slot-in-Handed.ensures.book ∙ ap (λ (s : Slot). with_queued d.book s (queued_in c.take-buffer.result.0 24 c.in-Handed.size)) c.enqueue-slot-in-Handed.ensures.slot in
+    let book = c.enqueue-slot-in-Handed.ensures.book ∙ ap (λ (s : Slot). with_queued d.book s (kept_in_buffer c.take-buffer.result.0 24 c.in-Handed.size)) c.enqueue-slot-in-Handed.ensures.slot in
     subst (λ (h : Holding g.row.P.Denot). Takes g.P.PeerLane.Moved c.args.place 1 h (holding_in (v g) c.enqueue-slot-in-Handed.new.self c.deal-verdict.new.endpoints c.complete.new.self d.table (slice_set d.peers.items c.args.place (record x { ends = c.take-buffer.new.self; known = c.deal-verdict.new.known; replies = c.deal-verdict.new.replies }))) lines lines') c.self.view_is
     (handed-takes g.P.PeerLane.Moved g.met.P.PeerLane.none (v g) d.book d.endpoints d.requests d.table d.peers.items c.self.invariant c.args.place x at c.take-buffer.result.0 c.take-buffer.result.1 lines lines' c.take-buffer.new.self took.seen took.moved took.apart c.in-Handed.size is.1 c.enqueue-slot-in-Handed.new.self book c.deal-verdict.new.known (ap (λ (z : Desk). z.names) is.2) c.deal-verdict.new.replies (ap (λ (z : Desk). z.replies) is.2) c.in-Handed.id c.in-Handed.ask is.0 c.deal-verdict.new.endpoints c.complete.new.self (ap (λ (z : Desk). z.records) is.2) requests told)
 

@@ -1,4 +1,5 @@
-use Rattle.std.proofs.Common.{◌≡◌, ◌∙◌, ℕ, List, Option, None, ap, sym, refl, subst, rules}
+use Rattle.std.proofs.Common.{◌≡◌, ◌∙◌, ℕ, List, Option, None, ap, arith, sym, refl, subst, rules, take}
+use Rattle.board_model.specs.Choice.{oldest}
 use Rattle.std.specs.Borrow.{Bor}
 use Rattle.std.specs.Prelude.{Err, option_map}
 use Rattle.mc_base.specs.declared.refusal.Refusal.TheVariants.{Empty, SclSize}
@@ -11,7 +12,7 @@ use Rattle.domain_parts.specs.CallSteps.{Acts}
 use Rattle.domain_parts.specs.Parts.{state_of}
 use Rattle.domain_parts.specs.Records.{slots_at}
 use Rattle.domain_parts.specs.Steps.{Did, Step}
-use Rattle.domain_parts.proofs.DataMeaning.{front-value, scalar-differs, scalar-done, scalar-empty, scalar-fits, scalar-means, scalar-other, scalar-refused, scalar-steps}
+use Rattle.domain_parts.proofs.DataMeaning.{front-value, front-whole, scalar-differs, scalar-done, scalar-empty, scalar-fits, scalar-means, scalar-other, scalar-refused, scalar-steps}
 use Rattle.domain_parts.proofs.Readings.{none-from}
 use Rattle.domain_parts.proofs.Steps.{first-there}
 use Rattle.domain_parts.proofs.Stepping.{acts-done, acts-refused}
@@ -29,23 +30,6 @@ returns-in_err-may_recv g c =
     subst (λ x. Acts g.P.PeerLane.Moved c.args.at.node call old old (available x) None) (sym answers)
     (acts-refused g.P.PeerLane.Moved c.args.at.node call old old word refused refl)
 
-pub returns-in_default-front : goal.returns-in_default-front
-returns-in_default-front g c =
-    let old = c.args.self.now in
-    let call = scalar_at c.args.at.port c.args.bits in
-    let none = ap (λ (o : Option (Bor (List ℕ))). option_map (λ (b : Bor (List ℕ)). b.now) o) (sym (none-from c.front.result c.in_default-front.not-Some)) ∙ c.front.ensures.front in
-    let refused = scalar-empty (state_of old.parts) c.args.at c.in-Some.place (end_of c.in-Some-channel_at.channel) (sym c.in-Some.ensures.place) (sym c.in-Some-channel_at.ensures.there) c.args.bits c.count_at.result c.count_at.ensures.count (sym c.in_ok-may_recv.was ∙ c.may_recv.ensures) none in
-    acts-refused g.P.PeerLane.Moved c.args.at.node call old old Empty refused refl
-
-pub returns-in_default-read_scalar : goal.returns-in_default-read_scalar
-returns-in_default-read_scalar g c =
-    let old = c.args.self.now in
-    let call = scalar_at c.args.at.port c.args.bits in
-    let bs = c.in-Some-front.bytes.now in
-    let differs = scalar-differs c.args.at.port c.args.bits bs (λ v is. c.in_default-read_scalar.not-Ok v (c.read_scalar.ensures ∙ is)) in
-    let refused = scalar-other (state_of old.parts) c.args.at c.in-Some.place (end_of c.in-Some-channel_at.channel) (sym c.in-Some.ensures.place) (sym c.in-Some-channel_at.ensures.there) c.args.bits c.count_at.result c.count_at.ensures.count (sym c.in_ok-may_recv.was ∙ c.may_recv.ensures) bs c.in-Some-front.ensures.front differs in
-    acts-refused g.P.PeerLane.Moved c.args.at.node call old old SclSize refused refl
-
 -- ---- it is received
 
 pub returns : goal.returns
@@ -58,8 +42,8 @@ returns g c =
     let i = c.in-Some.place in
     let call = scalar_at at.port c.args.bits in
     let there = sym c.in-Some.ensures.place in
-    let bs = c.in-Some-front.bytes.now in
-    let is = c.in-Some-front.ensures.front in
+    let bs = take c.in-Some-front.got.given c.front.new.out in
+    let is = front-whole (oldest (queue_at s at)) c.in-Some-front.got.size bs c.in-Some-front.ensures.size c.in-Some-front.ensures.bytes (omega (arith, c.if-got-gt8.false)) in
     let fits = scalar-fits at.port c.args.bits bs c.in-Ok.value c.in-Ok.ensures in
     let unrefused = scalar-done s at i (end_of c.in-Some-channel_at.channel) there (sym c.in-Some-channel_at.ensures.there) c.args.bits c.count_at.result c.count_at.ensures.count (sym c.in_ok-may_recv.was ∙ c.may_recv.ensures) bs is fits.0 in
     let dropped = c.drop_oldest.ensures.did in

@@ -1,6 +1,0 @@
-use Rattle.std.proofs.Common.{Some}
-use Rattle.item_book.proofs.CellWrites.{written-held}
-use Rattle.item_book.proofs.cell.hold.Goals as goal
-
-pub returns : goal.returns
-returns c = written-held c.args.cells.now.items c.args.place (Some c.args.held) c.index_mut.result.now c.index_mut.ensures.value

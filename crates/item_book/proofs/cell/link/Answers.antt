@@ -1,5 +1,0 @@
-use Rattle.item_book.proofs.CellWrites.{written-next}
-use Rattle.item_book.proofs.cell.link.Goals as goal
-
-pub returns : goal.returns
-returns c = written-next c.args.cells.now.items c.args.place c.args.next c.index_mut.result.now c.index_mut.ensures.value
