@@ -202,22 +202,28 @@ fn answers<S: SendEnd, R: RecvEnd>(
     Ok(made(domain, journal, call) == Some(due))
 }
 
-/// Asserts what each call answers.
+/// Asserts what each call answers. The rows have a name.
 fn assert_answers<S: SendEnd, R: RecvEnd>(
     rt: &impl Abort,
     domain: &mut Domain<S, R>,
     journal: &mut Journal,
+    name: &str,
     rows: &[Answered],
 ) -> Result<(), Fail> {
     for (i, row) in rows.iter().enumerate() {
-        assert!(rt; answers(domain, journal, *row)?, "row {i}");
+        assert!(rt; answers(domain, journal, *row)?, "{name}, row {i}");
     }
     Ok(())
 }
 
 /// The same of a domain without links.
-fn assert_calls(rt: &impl Abort, lone: &mut Lone, rows: &[Answered]) -> Result<(), Fail> {
-    assert_answers(rt, &mut lone.domain, &mut lone.journal, rows)
+fn assert_calls(
+    rt: &impl Abort,
+    lone: &mut Lone,
+    name: &str,
+    rows: &[Answered],
+) -> Result<(), Fail> {
+    assert_answers(rt, &mut lone.domain, &mut lone.journal, name, rows)
 }
 
 const ANSWERS_OF_CALLS: [Answered; 20] = [
@@ -243,13 +249,6 @@ const ANSWERS_OF_CALLS: [Answered; 20] = [
     (Receive(1, 0, 1), Ok(2)),
 ];
 
-#[test]
-fn calls_answer(rt: HostRuntime) -> Result<(), Fail> {
-    assert_of(Lone::open(rt.alloc(), 2, 2), |lone| {
-        assert_calls(&rt, lone, &ANSWERS_OF_CALLS)
-    })
-}
-
 const FOUR_PRIORITIES: [Answered; 8] = [
     (Create(0, 1), Ok(1024)),
     (Send(1, 1, 2, 20, 1), Ok(0)),
@@ -260,23 +259,6 @@ const FOUR_PRIORITIES: [Answered; 8] = [
     (Receive(1, 488, 2), Ok(4)),
     (Receive(1, 488, 10), Ok(3)),
 ];
-
-/// Whether one message is left, whose buffer is the domain's own.
-fn has_one_left(domain: &Domain<AnySend, AnyRecv>) -> bool {
-    domain.messages_queued() == 1
-        && domain.places(3) == Some(Places { queue: 1, lent: 0 })
-        && domain.places(4).is_none()
-}
-
-#[test]
-fn the_best_priority_comes_first(rt: HostRuntime) -> Result<(), Fail> {
-    may_cross_threads();
-    assert_of(Lone::open(rt.alloc(), 1, 4), |lone| {
-        assert_calls(&rt, lone, &FOUR_PRIORITIES)?;
-        assert!(rt; has_one_left(&lone.domain));
-        Ok(())
-    })
-}
 
 const MESSAGES_APART: [Answered; 12] = [
     (Create(0, 1), Ok(1024)),
@@ -293,13 +275,44 @@ const MESSAGES_APART: [Answered; 12] = [
     (Receive(2, 488, 0), Err(Refusal::Empty)),
 ];
 
-#[test]
-fn each_message_keeps_its_own_bytes(rt: HostRuntime) -> Result<(), Fail> {
-    assert_of(Lone::open(rt.alloc(), 1, 2), |lone| {
-        assert_calls(&rt, lone, &MESSAGES_APART)?;
-        assert!(rt; lone.domain.messages_queued() == 0);
+/// A name, the nodes of a new domain, the buffers of its pool, the rows, and how many messages are queued in the end, each in a buffer of
+/// the domain's own.
+type Case = (&'static str, u8, u32, &'static [Answered], u32);
+
+static CASES: [Case; 3] = [
+    ("each answer of a call", 2, 2, &ANSWERS_OF_CALLS, 0),
+    ("the best priority comes first", 1, 4, &FOUR_PRIORITIES, 1),
+    ("each message keeps its own bytes", 1, 2, &MESSAGES_APART, 0),
+];
+
+/// Whether so many messages are queued, and nothing is held of a domain to which there is no lane.
+fn has_queued(domain: &Domain<AnySend, AnyRecv>, messages: u32) -> bool {
+    let own = Places {
+        queue: messages,
+        lent: 0,
+    };
+    domain.messages_queued() == messages
+        && domain.places(3) == Some(own)
+        && domain.places(4).is_none()
+}
+
+fn assert_case(rt: &impl Abort, alloc: Global, case: &Case) -> Result<(), Fail> {
+    let (name, nodes, pool, rows, queued) = *case;
+    let opened = Lone::open(alloc, nodes.clamp(1, 16), pool.clamp(1, 256));
+    assert_of(opened, |lone| {
+        assert_calls(rt, lone, name, rows)?;
+        assert!(rt; has_queued(&lone.domain, queued), "{name}");
         Ok(())
     })
+}
+
+#[test]
+fn calls_answer(rt: HostRuntime) -> Result<(), Fail> {
+    may_cross_threads();
+    for case in &CASES {
+        assert_case(&rt, rt.alloc(), case)?;
+    }
+    Ok(())
 }
 
 /// Makes 64 endpoints, and asserts that there is no more room.
@@ -311,7 +324,12 @@ fn assert_filled(rt: &impl Abort, lone: &mut Lone) -> Result<(), Fail> {
             "{port}"
         );
     }
-    assert_calls(rt, lone, &[(Create(0, 64), Err(Refusal::EndpLimit))])
+    assert_calls(
+        rt,
+        lone,
+        "none is left",
+        &[(Create(0, 64), Err(Refusal::EndpLimit))],
+    )
 }
 
 #[test]

@@ -180,19 +180,29 @@ fn answers(board: &mut Board, deed: Deed, due: steps::Answered) -> Result<bool, 
     Ok(board.does(deed)? == Some(due))
 }
 
-/// Asserts what each deed answers.
-fn assert_deeds(rt: &impl Abort, board: &mut Board, rows: &[Row]) -> Result<(), Fail> {
+/// Asserts what each deed answers. The rows have a name.
+fn assert_deeds(rt: &impl Abort, board: &mut Board, name: &str, rows: &[Row]) -> Result<(), Fail> {
     for (i, (deed, due)) in rows.iter().enumerate() {
-        assert!(rt; answers(board, *deed, *due)?, "row {i}");
+        assert!(rt; answers(board, *deed, *due)?, "{name}, row {i}");
     }
     Ok(())
 }
 
-/// The same of a new board, whose link has so many buffers each way.
-fn assert_all(rt: &impl Abort, alloc: Global, size: u32, rows: &[Row]) -> Result<(), Fail> {
+/// A name, the buffers that the link of a new board has each way, and the rows.
+type Case = (&'static str, u32, &'static [Row]);
+
+fn assert_case(rt: &impl Abort, alloc: Global, case: &Case) -> Result<(), Fail> {
+    let (name, size, rows) = *case;
     assert_of(Board::open(alloc, size), |board| {
-        assert_deeds(rt, board, rows)
+        assert_deeds(rt, board, name, rows)
     })
+}
+
+fn assert_cases(rt: &impl Abort, alloc: Global, cases: &[Case]) -> Result<(), Fail> {
+    for case in cases {
+        assert_case(rt, alloc, case)?;
+    }
+    Ok(())
 }
 
 const CARRIED: Row = (Carry, Ok(Number(0)));

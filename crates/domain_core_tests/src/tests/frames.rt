@@ -199,7 +199,7 @@ fn is_due(rows: &[Row], frame: usize, fate: Fate) -> bool
 /// Makes an endpoint at port 1, and makes turns until all frames are taken, 8 a turn.
 fn assert_dealt(rt: &impl Abort, noted: &mut Noted, rows: &[Row]) -> Result<(), Fail> {
     let row = (Create(0, 1), Ok(1024));
-    assert_answers(rt, &mut noted.domain, &mut noted.journal, &[row])?;
+    assert!(rt; answers(&mut noted.domain, &mut noted.journal, row)?);
     for _ in 0..rows.len() / 8 {
         noted.journal.reserve(160, 67_584)?;
         noted.domain.turn(&mut noted.journal);
@@ -386,6 +386,7 @@ fn assert_left(rt: &impl Abort, noted: &mut Noted) -> Result<(), Fail> {
         rt,
         &mut noted.domain,
         &mut noted.journal,
+        "what is left",
         &RECEIVED_OF_DEALT,
     )
 }

@@ -66,7 +66,7 @@ fn assert_created(
     domain: &mut Domain<PlainSend, PlainRecv>,
     journal: &mut Journal,
 ) -> Result<(), Fail> {
-    assert_answers(rt, domain, journal, &[(Create(0, 1), Ok(1024))])?;
+    assert!(rt; answers(domain, journal, (Create(0, 1), Ok(1024)))?);
     journal.reserve(160, 67_584)?;
     assert!(rt; !domain.turn(journal));
     Ok(())
@@ -99,7 +99,12 @@ fn assert_all_spent(rt: &impl Abort, lone: &mut Lone) -> Result<(), Fail> {
     for i in 0..60_000 {
         assert!(rt; comes_and_goes(lone, 1024 + i)?, "{i}");
     }
-    assert_calls(rt, lone, &[(Create(0, 1), Err(Refusal::AddressSpent))])
+    assert_calls(
+        rt,
+        lone,
+        "none is left",
+        &[(Create(0, 1), Err(Refusal::AddressSpent))],
+    )
 }
 
 #[test]

@@ -6,9 +6,14 @@ ghost use Rattle.domain_core.specs.Going.{Goes};
 
 use super::*;
 use arrayvec::ArrayVec;
+use cases::{
+    Case, NONE_HELD, ONE_LENT, ONE_QUEUED, Row, TWO_QUEUED, assert_cases, assert_rows, holds,
+    opened,
+};
 use domain_core::WaitFault;
 use mc_base::{Bits, Done, Kind, PacketId, Reason};
 
+mod cases;
 mod channels;
 mod data;
 mod endpoints;
@@ -78,14 +83,18 @@ pub enum Step {
     WaitAny(u32, [u64; 8], u8, u8),
     /// Asks for the first place whose request is complete, and answers 0 where none is.
     Settled([u64; 8]),
+    /// Asks how many items are queued on the domain's own channel of a number.
+    QueuedOn(u32),
+    /// Asks how many channels the domain has numbered.
+    ChannelsGiven,
     /// Makes a turn.
     Turn,
 }
 
 use Step::{
-    Available, Begin, BeginPacket, Cancel, CloseRecv, CloseSend, Connect, Delete, Lookup, OpenRecv,
-    OpenSend, Plain, PutRaw, ReadPacket, ReceivePacket, ReceiveScalar, Release, SendPacket,
-    SendScalar, Settled, Test, Turn, Wait, WaitAny,
+    Available, Begin, BeginPacket, Cancel, ChannelsGiven, CloseRecv, CloseSend, Connect, Delete,
+    Lookup, OpenRecv, OpenSend, Plain, PutRaw, QueuedOn, ReadPacket, ReceivePacket, ReceiveScalar,
+    Release, SendPacket, SendScalar, Settled, Test, Turn, Wait, WaitAny,
 };
 
 /// What a call tells that is not refused.
@@ -238,6 +247,14 @@ pub fn stepped<S: SendEnd, R: RecvEnd>(
         Settled(serials) => {
             let place = domain.settled(&ids_of(ids, serials)).unwrap_or(0);
             Ok(Some(Ok(Number(u64::from(place)))))
+        }
+        QueuedOn(channel) => {
+            let queued = domain.queued(3, channel);
+            Ok(Some(Ok(Number(u64::from(queued)))))
+        }
+        ChannelsGiven => {
+            let given = domain.channels_given();
+            Ok(Some(Ok(Number(u64::from(given)))))
         }
         Turn => Ok(Some(Ok(Idle(domain.turn(journal))))),
     }
@@ -449,44 +466,4 @@ fn ended<S: SendEnd, R: RecvEnd>(
         return None;
     }
     Some(answer)
-}
-
-/// A call, its answer, and how many buffers stand in queues and how many are lent from then on.
-type Row = (Step, Answered, (u32, u32));
-
-fn places((queue, lent): (u32, u32)) -> Option<Places> {
-    Some(Places { queue, lent })
-}
-
-/// Whether a call answers what it must, and this is held from then on.
-fn holds(lone: &mut Lone, (step, due, held): Row) -> Result<bool, NoMemory> {
-    lone.journal.reserve(160, 67_584)?;
-    let answer = stepped(&mut lone.domain, &mut lone.journal, &mut lone.ids, step)?;
-    Ok(answer == Some(due) && lone.domain.places(3) == places(held))
-}
-
-/// Asserts what each call answers, and what is held from then on.
-fn assert_rows(rt: &impl Abort, lone: &mut Lone, rows: &[Row]) -> Result<(), Fail> {
-    for (i, row) in rows.iter().enumerate() {
-        assert!(rt; holds(lone, *row)?, "row {i}");
-    }
-    Ok(())
-}
-
-/// The same of one list of rows after the other, in a new domain whose pool has so many buffers.
-fn assert_parts(rt: &impl Abort, alloc: Global, pool: u32, parts: &[&[Row]]) -> Result<(), Fail>
-    requires some { 1 ≤ pool }
-    requires most { pool ≤ 256 }
-{
-    assert_of(Lone::open(alloc, 1, pool), |lone| {
-        for rows in parts {
-            assert_rows(rt, lone, rows)?;
-        }
-        Ok(())
-    })
-}
-
-/// The same of one list, where the pool has two buffers.
-fn assert_all(rt: &impl Abort, alloc: Global, rows: &[Row]) -> Result<(), Fail> {
-    assert_parts(rt, alloc, 2, &[rows])
 }

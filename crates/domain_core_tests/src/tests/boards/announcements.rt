@@ -21,11 +21,6 @@ const LOOKED_UP: [Row; 15] = [
     (Four(Turn), Ok(Idle(true))),
 ];
 
-#[test]
-fn lookups_before_and_after_the_creation(rt: HostRuntime) -> Result<(), Fail> {
-    assert_all(&rt, rt.alloc(), 2, &LOOKED_UP)
-}
-
 const DELETED: [Row; 19] = [
     (Three(Plain(Create(0, 1))), Ok(Number(1024))),
     (Three(Plain(SendAbroad(1, 1))), Err(Refusal::PeerInvalid)),
@@ -49,9 +44,14 @@ const DELETED: [Row; 19] = [
     (FourHolds(3), Ok(Held(0, 0))),
 ];
 
+static CASES: [Case; 2] = [
+    ("lookups before and after the creation", 2, &LOOKED_UP),
+    ("a deleted endpoint is no peer any more", 2, &DELETED),
+];
+
 #[test]
-fn a_deleted_endpoint_is_no_peer_any_more(rt: HostRuntime) -> Result<(), Fail> {
-    assert_all(&rt, rt.alloc(), 2, &DELETED)
+fn names_over_a_link(rt: HostRuntime) -> Result<(), Fail> {
+    assert_cases(&rt, rt.alloc(), &CASES)
 }
 
 const CREATED_AND_DELETED: [Row; 24] = [
@@ -97,7 +97,7 @@ fn are_all_acted_on(journal: &Journal) -> bool {
 #[test]
 fn what_is_owed_is_told_in_order(rt: HostRuntime) -> Result<(), Fail> {
     assert_of(Board::open(rt.alloc(), 2), |board| {
-        assert_deeds(&rt, board, &CREATED_AND_DELETED)?;
+        assert_deeds(&rt, board, "what is owed", &CREATED_AND_DELETED)?;
         assert!(rt; are_all_acted_on(&board.fours.journal));
         Ok(())
     })
@@ -140,12 +140,12 @@ fn create_all(rt: &impl Abort, board: &mut Board, count: u16) -> Result<(), Fail
 
 fn assert_in_use(rt: &impl Abort, board: &mut Board) -> Result<(), Fail> {
     create_all(rt, board, 64)?;
-    assert_deeds(rt, board, &ALL_IN_USE)?;
+    assert_deeds(rt, board, "all in use", &ALL_IN_USE)?;
     // 62 creations are owed, and then the end.
     for _ in 0..31 {
-        assert_deeds(rt, board, &ROUND)?;
+        assert_deeds(rt, board, "a round", &ROUND)?;
     }
-    assert_deeds(rt, board, &FREED)
+    assert_deeds(rt, board, "freed", &FREED)
 }
 
 #[test]
@@ -201,7 +201,7 @@ const LINES_OF_NINE_OWED: [Line; 13] = [
 /// Makes 18 endpoints, of which nine are announced at once, and nine are owed.
 fn assert_nine(rt: &impl Abort, board: &mut Board) -> Result<(), Fail> {
     create_all(rt, board, 18)?;
-    assert_deeds(rt, board, &NINE)?;
+    assert_deeds(rt, board, "nine frames", &NINE)?;
     assert_lines(rt, &board.fours.journal, &LINES_OF_NINE_TAKEN);
     assert_last_lines(rt, &board.threes.journal, &LINES_OF_NINE_OWED);
     Ok(())

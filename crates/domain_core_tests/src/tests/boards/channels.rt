@@ -26,11 +26,6 @@ const OVER_A_LINK: [Row; 19] = [
     (Three(Connect(1, 4, 1, Scalar)), Ok(Connected(1, 2))),
 ];
 
-#[test]
-fn a_channel_goes_over_a_link(rt: HostRuntime) -> Result<(), Fail> {
-    assert_all(&rt, rt.alloc(), 8, &OVER_A_LINK)
-}
-
 /// Packets of the least and the greatest size, which wait until the receiver closes.
 const PACKETS: [Row; 24] = [
     (Three(Plain(Create(0, 1))), Ok(Number(1024))),
@@ -59,11 +54,6 @@ const PACKETS: [Row; 24] = [
     (Three(SendPacket(1, 9, 1)), Err(Refusal::NotConnected)),
 ];
 
-#[test]
-fn packets_wait_at_the_other_domain(rt: HostRuntime) -> Result<(), Fail> {
-    assert_all(&rt, rt.alloc(), 8, &PACKETS)
-}
-
 const TO_NO_ENDPOINT: [Row; 12] = [
     (Three(Plain(Create(0, 1))), Ok(Number(1024))),
     (Four(Plain(Create(0, 1))), Ok(Number(1024))),
@@ -79,7 +69,13 @@ const TO_NO_ENDPOINT: [Row; 12] = [
     (Three(Delete(0, 1)), Ok(Number(0))),
 ];
 
+static CASES: [Case; 3] = [
+    ("a channel goes over a link", 8, &OVER_A_LINK),
+    ("packets wait at the other domain", 8, &PACKETS),
+    ("a connect comes to no endpoint", 8, &TO_NO_ENDPOINT),
+];
+
 #[test]
-fn a_connect_comes_to_no_endpoint(rt: HostRuntime) -> Result<(), Fail> {
-    assert_all(&rt, rt.alloc(), 8, &TO_NO_ENDPOINT)
+fn channels_over_a_link(rt: HostRuntime) -> Result<(), Fail> {
+    assert_cases(&rt, rt.alloc(), &CASES)
 }

@@ -26,11 +26,6 @@ const FULL: [Row; 20] = [
     (FourHolds(3), Ok(Held(1, 0))),
 ];
 
-#[test]
-fn a_link_of_two_runs_out_of_buffers(rt: HostRuntime) -> Result<(), Fail> {
-    assert_all(&rt, rt.alloc(), 2, &FULL)
-}
-
 const FULL_OF_OWED: [Row; 12] = [
     (Four(Plain(Create(0, 1))), Ok(Number(1024))),
     (Four(Turn), Ok(Idle(false))),
@@ -46,11 +41,6 @@ const FULL_OF_OWED: [Row; 12] = [
     (Three(Plain(SendAbroad(1, 1))), Ok(Number(0))),
     (Three(Plain(SendAbroad(1, 1))), Err(Refusal::NoBuffer)),
 ];
-
-#[test]
-fn owed_frames_come_before_messages(rt: HostRuntime) -> Result<(), Fail> {
-    assert_all(&rt, rt.alloc(), 2, &FULL_OF_OWED)
-}
 
 /// A message in each direction and one inside, on links of one buffer.
 const ONE_BUFFER: [Row; 16] = [
@@ -71,11 +61,6 @@ const ONE_BUFFER: [Row; 16] = [
     (ThreeHolds(3), Ok(Held(1, 0))),
     (ThreeHolds(4), Ok(Held(0, 0))),
 ];
-
-#[test]
-fn messages_over_links_of_one_buffer(rt: HostRuntime) -> Result<(), Fail> {
-    assert_all(&rt, rt.alloc(), 1, &ONE_BUFFER)
-}
 
 const HANDED: [Row; 19] = [
     (Four(Plain(Create(0, 1))), Ok(Number(1024))),
@@ -100,7 +85,18 @@ const HANDED: [Row; 19] = [
     (FourHolds(3), Ok(Held(0, 0))),
 ];
 
+static CASES: [Case; 4] = [
+    ("a link of two runs out of buffers", 2, &FULL),
+    ("owed frames come before messages", 2, &FULL_OF_OWED),
+    ("messages over links of one buffer", 1, &ONE_BUFFER),
+    (
+        "a receive that waits gets the message of a link",
+        2,
+        &HANDED,
+    ),
+];
+
 #[test]
-fn a_receive_that_waits_gets_the_message_of_a_link(rt: HostRuntime) -> Result<(), Fail> {
-    assert_all(&rt, rt.alloc(), 2, &HANDED)
+fn messages_over_a_link(rt: HostRuntime) -> Result<(), Fail> {
+    assert_cases(&rt, rt.alloc(), &CASES)
 }

@@ -20,7 +20,9 @@ const OVER_A_LINK: [Row; 14] = [
     (Four(Wait(3, 0, 0)), Err(Refusal::RequestInvalid)),
 ];
 
+static CASES: [Case; 1] = [("a wait is over once the link is carried", 8, &OVER_A_LINK)];
+
 #[test]
-fn a_wait_is_over_once_the_link_is_carried(rt: HostRuntime) -> Result<(), Fail> {
-    assert_all(&rt, rt.alloc(), 8, &OVER_A_LINK)
+fn waits_over_a_link(rt: HostRuntime) -> Result<(), Fail> {
+    assert_cases(&rt, rt.alloc(), &CASES)
 }

@@ -136,6 +136,7 @@ fn assert_connected(rt: &impl Abort, noted: &mut Noted) -> Result<(), Fail> {
         rt,
         &mut noted.domain,
         &mut noted.journal,
+        "at an endpoint that has a channel",
         &REFUSED_ON_CHANNEL,
     )?;
     noted.journal.reserve(160, 67_584)?;

@@ -3,9 +3,7 @@
 use super::*;
 use Kind::{Packet, Scalar};
 
-const NONE_HELD: (u32, u32) = (0, 0);
-
-const CHANNELS: [Row; 17] = [
+const CHANNELS: [Row; 20] = [
     (Plain(Create(0, 1)), Ok(Number(1024)), NONE_HELD),
     (Plain(Create(0, 2)), Ok(Number(1025)), NONE_HELD),
     (Connect(1, 3, 2, Packet), Ok(Connected(0, 1)), NONE_HELD),
@@ -29,17 +27,10 @@ const CHANNELS: [Row; 17] = [
     (Test(1, 0), Ok(Accepted), NONE_HELD),
     (OpenSend(1, Scalar), Ok(Number(0)), NONE_HELD),
     (CloseRecv(2), Ok(Number(0)), NONE_HELD),
+    (ChannelsGiven, Ok(Number(2)), NONE_HELD),
+    (QueuedOn(1), Ok(Number(0)), NONE_HELD),
+    (QueuedOn(2), Ok(Number(0)), NONE_HELD),
 ];
-
-#[test]
-fn a_channel_is_made_opened_and_closed(rt: HostRuntime) -> Result<(), Fail> {
-    assert_of(Lone::open(rt.alloc(), 1, 2), |lone| {
-        assert_rows(&rt, lone, &CHANNELS)?;
-        assert!(rt; lone.domain.channels_given() == 2);
-        assert!(rt; lone.domain.queued(3, 1) == 0 && lone.domain.queued(3, 2) == 0);
-        Ok(())
-    })
-}
 
 const REFUSED_CONNECTS: [Row; 14] = [
     (Plain(Create(0, 1)), Ok(Number(1024)), NONE_HELD),
@@ -75,11 +66,6 @@ const REFUSED_CONNECTS: [Row; 14] = [
     (Delete(0, 1), Err(Refusal::ChanConnected), NONE_HELD),
 ];
 
-#[test]
-fn connects_are_refused_in_order(rt: HostRuntime) -> Result<(), Fail> {
-    assert_all(&rt, rt.alloc(), &REFUSED_CONNECTS)
-}
-
 const AT_THE_LIMITS: [Row; 8] = [
     (Plain(Create(0, 1)), Ok(Number(1024)), NONE_HELD),
     (Plain(Send(1, 1, 0, 7, 2)), Ok(Number(0)), NONE_HELD),
@@ -109,7 +95,7 @@ fn fill(lone: &mut Lone) -> Result<(), NoMemory> {
 fn a_connect_needs_a_request_and_a_buffer(rt: HostRuntime) -> Result<(), Fail> {
     assert_of(Lone::open(rt.alloc(), 1, 1), |lone| {
         fill(lone)?;
-        assert_rows(&rt, lone, &AT_THE_LIMITS)
+        assert_rows(&rt, lone, "at the limits", &AT_THE_LIMITS)
     })
 }
 
@@ -145,11 +131,6 @@ const REFUSED_AT_ENDS: [Row; 27] = [
     (CloseSend(1), Err(Refusal::NotConnected), NONE_HELD),
 ];
 
-#[test]
-fn calls_at_ends_are_refused_in_order(rt: HostRuntime) -> Result<(), Fail> {
-    assert_all(&rt, rt.alloc(), &REFUSED_AT_ENDS)
-}
-
 const RECEIVER_FIRST: [Row; 9] = [
     (Plain(Create(0, 1)), Ok(Number(1024)), NONE_HELD),
     (Plain(Create(0, 2)), Ok(Number(1025)), NONE_HELD),
@@ -161,11 +142,6 @@ const RECEIVER_FIRST: [Row; 9] = [
     (CloseSend(1), Ok(Number(0)), NONE_HELD),
     (CloseSend(1), Err(Refusal::NotConnected), NONE_HELD),
 ];
-
-#[test]
-fn a_receiver_may_close_first(rt: HostRuntime) -> Result<(), Fail> {
-    assert_all(&rt, rt.alloc(), &RECEIVER_FIRST)
-}
 
 /// The only buffer of the pool is in the queue of another endpoint.
 const NO_BUFFER_AT_ENDS: [Row; 13] = [
@@ -183,11 +159,6 @@ const NO_BUFFER_AT_ENDS: [Row; 13] = [
     (Plain(Receive(3, 488, 7)), Ok(Number(2)), NONE_HELD),
     (CloseRecv(2), Ok(Number(0)), NONE_HELD),
 ];
-
-#[test]
-fn calls_at_ends_need_a_buffer(rt: HostRuntime) -> Result<(), Fail> {
-    assert_parts(&rt, rt.alloc(), 1, &[&NO_BUFFER_AT_ENDS])
-}
 
 const REJECTED: [Row; 15] = [
     (Plain(Create(0, 1)), Ok(Number(1024)), NONE_HELD),
@@ -208,11 +179,6 @@ const REJECTED: [Row; 15] = [
     (Test(4, 0), Ok(Rejected(Reason::Connected)), NONE_HELD),
 ];
 
-#[test]
-fn a_connect_may_be_rejected(rt: HostRuntime) -> Result<(), Fail> {
-    assert_all(&rt, rt.alloc(), &REJECTED)
-}
-
 const CANCELLED: [Row; 7] = [
     (Plain(Create(0, 1)), Ok(Number(1024)), NONE_HELD),
     (Plain(Create(0, 2)), Ok(Number(1025)), NONE_HELD),
@@ -228,7 +194,47 @@ const CANCELLED: [Row; 7] = [
     (Test(0, 0), Err(Refusal::RequestInvalid), NONE_HELD),
 ];
 
+static CASES: [Case; 7] = [
+    (
+        "a channel is made, opened and closed",
+        2,
+        None,
+        &CHANNELS,
+        &[],
+    ),
+    (
+        "connects are refused in order",
+        2,
+        None,
+        &REFUSED_CONNECTS,
+        &[],
+    ),
+    (
+        "calls at ends are refused in order",
+        2,
+        None,
+        &REFUSED_AT_ENDS,
+        &[],
+    ),
+    ("a receiver may close first", 2, None, &RECEIVER_FIRST, &[]),
+    (
+        "calls at ends need a buffer",
+        1,
+        None,
+        &NO_BUFFER_AT_ENDS,
+        &[],
+    ),
+    ("a connect may be rejected", 2, None, &REJECTED, &[]),
+    (
+        "a cancelled connect leaves its channel",
+        2,
+        None,
+        &CANCELLED,
+        &[],
+    ),
+];
+
 #[test]
-fn a_cancelled_connect_leaves_its_channel(rt: HostRuntime) -> Result<(), Fail> {
-    assert_all(&rt, rt.alloc(), &CANCELLED)
+fn calls_of_channels(rt: HostRuntime) -> Result<(), Fail> {
+    assert_cases(&rt, rt.alloc(), &CASES)
 }

@@ -5,25 +5,6 @@ use Bits::{B8, B16, B32, B64};
 use Kind::{Packet, Scalar};
 use Value::{Byte, Long, Short, Word};
 
-const NONE_HELD: (u32, u32) = (0, 0);
-
-const ONE_QUEUED: (u32, u32) = (1, 0);
-
-const TWO_QUEUED: (u32, u32) = (2, 0);
-
-/// A channel from port 1 to port 2, whose ends are open.
-fn opened(kind: Kind) -> [Row; 7] {
-    [
-        (Plain(Create(0, 1)), Ok(Number(1024)), NONE_HELD),
-        (Plain(Create(0, 2)), Ok(Number(1025)), NONE_HELD),
-        (Connect(1, 3, 2, kind), Ok(Connected(0, 1)), NONE_HELD),
-        (Test(0, 0), Err(Refusal::Pending), NONE_HELD),
-        (Test(0, 0), Ok(Accepted), NONE_HELD),
-        (OpenSend(1, kind), Ok(Number(0)), NONE_HELD),
-        (OpenRecv(2, kind), Ok(Number(0)), NONE_HELD),
-    ]
-}
-
 /// Scalars of each size, 0 and the greatest, each asked for by other bits first.
 const SCALARS: [Row; 28] = [
     (SendScalar(1, Byte(0)), Ok(Number(0)), NONE_HELD),
@@ -56,17 +37,14 @@ const SCALARS: [Row; 28] = [
     (ReceiveScalar(2, B64), Err(Refusal::Empty), NONE_HELD),
 ];
 
-#[test]
-fn scalars_of_each_size(rt: HostRuntime) -> Result<(), Fail> {
-    assert_parts(&rt, rt.alloc(), 2, &[&opened(Scalar), &SCALARS])
-}
-
 /// A receiver that takes nothing holds the buffers of the lane, and a sender that closes leaves what is queued.
-const SLOW: [Row; 12] = [
+const SLOW: [Row; 15] = [
     (SendScalar(1, Byte(1)), Ok(Number(0)), NONE_HELD),
     (SendScalar(1, Byte(2)), Ok(Number(0)), ONE_QUEUED),
     (SendScalar(1, Byte(3)), Err(Refusal::NoBuffer), TWO_QUEUED),
     (CloseSend(1), Err(Refusal::NoBuffer), TWO_QUEUED),
+    (QueuedOn(1), Ok(Number(2)), TWO_QUEUED),
+    (QueuedOn(2), Ok(Number(0)), TWO_QUEUED),
     (CloseRecv(2), Err(Refusal::NoBuffer), TWO_QUEUED),
     (ReceiveScalar(2, B8), Ok(Number(1)), ONE_QUEUED),
     (CloseSend(1), Ok(Number(0)), ONE_QUEUED),
@@ -75,19 +53,8 @@ const SLOW: [Row; 12] = [
     (ReceiveScalar(2, B8), Err(Refusal::ChanClosed), NONE_HELD),
     (CloseRecv(2), Ok(Number(0)), NONE_HELD),
     (ReceiveScalar(2, B8), Err(Refusal::NotConnected), NONE_HELD),
+    (QueuedOn(1), Ok(Number(0)), NONE_HELD),
 ];
-
-#[test]
-fn a_slow_receiver_uses_up_the_lane(rt: HostRuntime) -> Result<(), Fail> {
-    assert_of(Lone::open(rt.alloc(), 1, 2), |lone| {
-        assert_rows(&rt, lone, &opened(Scalar))?;
-        assert_rows(&rt, lone, &SLOW[..4])?;
-        assert!(rt; lone.domain.queued(3, 1) == 2 && lone.domain.queued(3, 2) == 0);
-        assert_rows(&rt, lone, &SLOW[4..])?;
-        assert!(rt; lone.domain.queued(3, 1) == 0);
-        Ok(())
-    })
-}
 
 /// Packets of the least and the greatest size, which are dropped where the receiver closes.
 const PACKETS: [Row; 6] = [
@@ -106,12 +73,6 @@ const LONG_PACKETS: [Row; 5] = [
     (SendPacket(1, 9, 488), Err(Refusal::NoBuffer), TWO_QUEUED),
     (Delete(0, 2), Err(Refusal::ChanConnected), TWO_QUEUED),
 ];
-
-#[test]
-fn packets_are_dropped_where_the_receiver_closes(rt: HostRuntime) -> Result<(), Fail> {
-    assert_parts(&rt, rt.alloc(), 2, &[&opened(Packet), &PACKETS])?;
-    assert_parts(&rt, rt.alloc(), 2, &[&opened(Packet), &LONG_PACKETS])
-}
 
 /// Each refusal stands before the next, on the way to an open channel of scalars.
 const REFUSED: [Row; 22] = [
@@ -151,13 +112,6 @@ const REFUSED: [Row; 22] = [
     (SendScalar(1, Byte(0)), Ok(Number(0)), NONE_HELD),
 ];
 
-#[test]
-fn each_refusal_of_an_item_in_its_order(rt: HostRuntime) -> Result<(), Fail> {
-    assert_all(&rt, rt.alloc(), &REFUSED)
-}
-
-const ONE_LENT: (u32, u32) = (0, 1);
-
 const TWO_LENT: (u32, u32) = (0, 2);
 
 /// Packets are lent in the order in which they were sent, and released in another. An id is good once.
@@ -183,11 +137,6 @@ const LENT: [Row; 19] = [
     (ReadPacket(1, 2, 9), Ok(Lent(1, 2, 0)), ONE_LENT),
 ];
 
-#[test]
-fn packets_are_lent_and_released(rt: HostRuntime) -> Result<(), Fail> {
-    assert_parts(&rt, rt.alloc(), 2, &[&opened(Packet), &LENT])
-}
-
 /// A request for a packet waits for one, holds it until it is tested off, and ends where the receiver closes.
 const REQUESTED: [Row; 13] = [
     (BeginPacket(2), Ok(Number(1)), NONE_HELD),
@@ -205,11 +154,6 @@ const REQUESTED: [Row; 13] = [
     (BeginPacket(2), Err(Refusal::ChanClosed), NONE_HELD),
 ];
 
-#[test]
-fn packets_are_requested(rt: HostRuntime) -> Result<(), Fail> {
-    assert_parts(&rt, rt.alloc(), 2, &[&opened(Packet), &REQUESTED])
-}
-
 /// Sends 64 packets of one byte, each of which is received and stays lent. The frames that opened the channel used the
 /// first four buffers, and a lane's buffers go round.
 fn assert_all_lent(rt: &impl Abort, lone: &mut Lone) -> Result<(), Fail> {
@@ -221,7 +165,7 @@ fn assert_all_lent(rt: &impl Abort, lone: &mut Lone) -> Result<(), Fail> {
             (SendPacket(1, n, 1), Ok(Number(0)), before),
             (ReceivePacket(2, n), Ok(answer), after),
         ];
-        assert_rows(rt, lone, &rows)?;
+        assert_rows(rt, lone, "a packet", &rows)?;
     }
     Ok(())
 }
@@ -249,7 +193,7 @@ fn assert_others_released(rt: &impl Abort, lone: &mut Lone) -> Result<(), Fail> 
             (release, Ok(Number(0)), left),
             (release, Err(Refusal::BufInvalid), left),
         ];
-        assert_rows(rt, lone, &rows)?;
+        assert_rows(rt, lone, "a packet", &rows)?;
     }
     Ok(())
 }
@@ -257,9 +201,9 @@ fn assert_others_released(rt: &impl Abort, lone: &mut Lone) -> Result<(), Fail> 
 #[test]
 fn sixty_four_packets_at_once(rt: HostRuntime) -> Result<(), Fail> {
     assert_of(Lone::open(rt.alloc(), 1, 64), |lone| {
-        assert_rows(&rt, lone, &opened(Packet))?;
+        assert_rows(&rt, lone, "a channel", &opened(Packet))?;
         assert_all_lent(&rt, lone)?;
-        assert_rows(&rt, lone, &LENT_ANEW)?;
+        assert_rows(&rt, lone, "lent anew", &LENT_ANEW)?;
         assert_others_released(&rt, lone)
     })
 }
@@ -277,7 +221,48 @@ const SENDER_CLOSES: [Row; 9] = [
     (Release(0, 0), Ok(Number(0)), NONE_HELD),
 ];
 
+static CASES: [Case; 8] = [
+    ("scalars of each size", 2, Some(Scalar), &SCALARS, &[]),
+    (
+        "a slow receiver uses up the lane",
+        2,
+        Some(Scalar),
+        &SLOW,
+        &[],
+    ),
+    (
+        "packets are dropped where the receiver closes",
+        2,
+        Some(Packet),
+        &PACKETS,
+        &[],
+    ),
+    (
+        "packets of the greatest size",
+        2,
+        Some(Packet),
+        &LONG_PACKETS,
+        &[],
+    ),
+    (
+        "each refusal of an item in its order",
+        2,
+        None,
+        &REFUSED,
+        &[],
+    ),
+    ("packets are lent and released", 2, Some(Packet), &LENT, &[]),
+    ("packets are requested", 2, Some(Packet), &REQUESTED, &[]),
+    (
+        "requests for packets end where the sender closes",
+        2,
+        Some(Packet),
+        &SENDER_CLOSES,
+        &[],
+    ),
+];
+
 #[test]
-fn requests_for_packets_end_where_the_sender_closes(rt: HostRuntime) -> Result<(), Fail> {
-    assert_parts(&rt, rt.alloc(), 2, &[&opened(Packet), &SENDER_CLOSES])
+fn items_on_channels(rt: HostRuntime) -> Result<(), Fail> {
+    assert_cases(&rt, rt.alloc(), &CASES)
 }

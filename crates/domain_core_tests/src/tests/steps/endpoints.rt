@@ -18,11 +18,6 @@ const DELETED: [Row; 13] = [
     (Available(2), Ok(Number(0)), (2, 0)),
 ];
 
-#[test]
-fn a_deleted_endpoint_drops_its_messages(rt: HostRuntime) -> Result<(), Fail> {
-    assert_all(&rt, rt.alloc(), &DELETED)
-}
-
 const RECEIVES_OF_DELETED: [Row; 12] = [
     (Plain(Create(0, 1)), Ok(Number(1024)), (0, 0)),
     (Plain(Create(0, 2)), Ok(Number(1025)), (0, 0)),
@@ -37,11 +32,6 @@ const RECEIVES_OF_DELETED: [Row; 12] = [
     (Test(0, 7), Ok(Message(5, 5)), (0, 0)),
     (Test(0, 7), Err(Refusal::RequestInvalid), (0, 0)),
 ];
-
-#[test]
-fn receives_end_with_their_endpoint(rt: HostRuntime) -> Result<(), Fail> {
-    assert_all(&rt, rt.alloc(), &RECEIVES_OF_DELETED)
-}
 
 const LOOKED_UP: [Row; 17] = [
     (Lookup(3, 1), Ok(Number(0)), (0, 0)),
@@ -62,11 +52,6 @@ const LOOKED_UP: [Row; 17] = [
     (Test(4, 0), Ok(Address(1025)), (0, 0)),
     (Test(3, 0), Err(Refusal::Pending), (0, 0)),
 ];
-
-#[test]
-fn lookups_are_complete_once_it_is_there(rt: HostRuntime) -> Result<(), Fail> {
-    assert_all(&rt, rt.alloc(), &LOOKED_UP)
-}
 
 const LIMITS: [Row; 9] = [
     (Lookup(3, 99), Err(Refusal::RequestLimit), (0, 0)),
@@ -95,7 +80,7 @@ fn assert_filled(rt: &impl Abort, lone: &mut Lone) -> Result<(), Fail> {
 fn sixty_four_lookups_and_endpoints(rt: HostRuntime) -> Result<(), Fail> {
     assert_of(Lone::open(rt.alloc(), 1, 1), |lone| {
         assert_filled(&rt, lone)?;
-        assert_rows(&rt, lone, &LIMITS)
+        assert_rows(&rt, lone, "the limits", &LIMITS)
     })
 }
 
@@ -108,7 +93,32 @@ const TURNS: [Row; 6] = [
     (Plain(Receive(1, 488, 7)), Ok(Number(2)), (0, 0)),
 ];
 
+static CASES: [Case; 4] = [
+    (
+        "a deleted endpoint drops its messages",
+        2,
+        None,
+        &DELETED,
+        &[],
+    ),
+    (
+        "receives end with their endpoint",
+        2,
+        None,
+        &RECEIVES_OF_DELETED,
+        &[],
+    ),
+    (
+        "lookups are complete once it is there",
+        2,
+        None,
+        &LOOKED_UP,
+        &[],
+    ),
+    ("turns tell whether they were idle", 2, None, &TURNS, &[]),
+];
+
 #[test]
-fn turns_tell_whether_they_were_idle(rt: HostRuntime) -> Result<(), Fail> {
-    assert_all(&rt, rt.alloc(), &TURNS)
+fn endpoints_and_lookups(rt: HostRuntime) -> Result<(), Fail> {
+    assert_cases(&rt, rt.alloc(), &CASES)
 }

@@ -3,12 +3,6 @@
 use super::*;
 use RawFrame::{Short, Sound};
 
-const NONE_HELD: (u32, u32) = (0, 0);
-
-const ONE_QUEUED: (u32, u32) = (1, 0);
-
-const TWO_QUEUED: (u32, u32) = (2, 0);
-
 /// Each refusal, also where a later one would hold too. A frame that is put keeps its buffer until the next turn takes it.
 const REFUSED: [Row; 15] = [
     (PutRaw(4, Short), Err(Refusal::LinkInvalid), NONE_HELD),
@@ -28,7 +22,9 @@ const REFUSED: [Row; 15] = [
     (Turn, Ok(Idle(true)), ONE_QUEUED),
 ];
 
+static CASES: [Case; 1] = [("sound frames are not put raw", 2, None, &REFUSED, &[])];
+
 #[test]
-fn sound_frames_are_not_put_raw(rt: HostRuntime) -> Result<(), Fail> {
-    assert_all(&rt, rt.alloc(), &REFUSED)
+fn raw_frames(rt: HostRuntime) -> Result<(), Fail> {
+    assert_cases(&rt, rt.alloc(), &CASES)
 }

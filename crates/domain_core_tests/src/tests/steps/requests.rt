@@ -17,11 +17,6 @@ const WAITING: [Row; 12] = [
     (Plain(Receive(1, 488, 0)), Err(Refusal::Empty), (0, 0)),
 ];
 
-#[test]
-fn receives_that_wait_come_first(rt: HostRuntime) -> Result<(), Fail> {
-    assert_all(&rt, rt.alloc(), &WAITING)
-}
-
 const BEST_THAT_IS_THERE: [Row; 12] = [
     (Plain(Create(0, 1)), Ok(Number(1024)), (0, 0)),
     (Begin(9, 8), Err(Refusal::EndpInvalid), (0, 0)),
@@ -36,11 +31,6 @@ const BEST_THAT_IS_THERE: [Row; 12] = [
     (Test(0, 1), Ok(Message(2, 0)), (1, 0)),
     (Plain(Receive(1, 488, 20)), Ok(Number(1)), (0, 0)),
 ];
-
-#[test]
-fn a_receive_takes_the_best_that_is_there(rt: HostRuntime) -> Result<(), Fail> {
-    assert_all(&rt, rt.alloc(), &BEST_THAT_IS_THERE)
-}
 
 const CANCELLED: [Row; 17] = [
     (Plain(Create(0, 1)), Ok(Number(1024)), (0, 0)),
@@ -63,11 +53,6 @@ const CANCELLED: [Row; 17] = [
     (Test(9, 0), Err(Refusal::RequestInvalid), (0, 0)),
 ];
 
-#[test]
-fn a_cancelled_receive_takes_nothing(rt: HostRuntime) -> Result<(), Fail> {
-    assert_all(&rt, rt.alloc(), &CANCELLED)
-}
-
 const LIMIT: [Row; 3] = [
     (Begin(1, 8), Err(Refusal::RequestLimit), (0, 0)),
     (Cancel(63), Ok(Number(0)), (0, 0)),
@@ -76,7 +61,8 @@ const LIMIT: [Row; 3] = [
 
 /// Makes an endpoint, and requests 64 messages there.
 fn assert_filled(rt: &impl Abort, lone: &mut Lone) -> Result<(), Fail> {
-    assert_rows(rt, lone, &[(Plain(Create(0, 1)), Ok(Number(1024)), (0, 0))])?;
+    let creation = (Plain(Create(0, 1)), Ok(Number(1024)), NONE_HELD);
+    assert!(rt; holds(lone, creation)?);
     for serial in 0..64 {
         let row = (Begin(1, 8), Ok(Number(serial)), (0, 0));
         assert!(rt; holds(lone, row)?, "{serial}");
@@ -88,7 +74,7 @@ fn assert_filled(rt: &impl Abort, lone: &mut Lone) -> Result<(), Fail> {
 fn sixty_four_requests_at_once(rt: HostRuntime) -> Result<(), Fail> {
     assert_of(Lone::open(rt.alloc(), 1, 1), |lone| {
         assert_filled(&rt, lone)?;
-        assert_rows(&rt, lone, &LIMIT)
+        assert_rows(&rt, lone, "the limit", &LIMIT)
     })
 }
 
@@ -107,11 +93,32 @@ const LINES_OF_HANDED: [Line; 5] = [
     (b'q', 3, 2, 26),
 ];
 
+static CASES: [Case; 4] = [
+    ("receives that wait come first", 2, None, &WAITING, &[]),
+    (
+        "a receive takes the best that is there",
+        2,
+        None,
+        &BEST_THAT_IS_THERE,
+        &[],
+    ),
+    (
+        "a cancelled receive takes nothing",
+        2,
+        None,
+        &CANCELLED,
+        &[],
+    ),
+    (
+        "a handed message is noted",
+        1,
+        None,
+        &HANDED,
+        &LINES_OF_HANDED,
+    ),
+];
+
 #[test]
-fn a_handed_message_is_noted(rt: HostRuntime) -> Result<(), Fail> {
-    assert_of(Lone::open(rt.alloc(), 1, 1), |lone| {
-        assert_rows(&rt, lone, &HANDED)?;
-        assert_lines(&rt, &lone.journal, &LINES_OF_HANDED);
-        Ok(())
-    })
+fn requests_for_messages(rt: HostRuntime) -> Result<(), Fail> {
+    assert_cases(&rt, rt.alloc(), &CASES)
 }

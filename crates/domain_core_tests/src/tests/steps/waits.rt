@@ -3,10 +3,6 @@
 use super::*;
 use Kind::Packet;
 
-const NONE_HELD: (u32, u32) = (0, 0);
-
-const ONE_LENT: (u32, u32) = (0, 1);
-
 /// The line that begins a wait.
 const BEGUN: Line = (b'v', 7, 0, 0);
 
@@ -43,15 +39,6 @@ const LINES_FOR_ONE: [Line; 12] = [
     (b'b', 3, 1, 0),
     (b'i', 0, 1, 0),
 ];
-
-#[test]
-fn a_wait_makes_the_turns_that_it_needs(rt: HostRuntime) -> Result<(), Fail> {
-    assert_of(Lone::open(rt.alloc(), 1, 2), |lone| {
-        assert_rows(&rt, lone, &FOR_ONE)?;
-        assert_lines(&rt, &lone.journal, &LINES_FOR_ONE);
-        Ok(())
-    })
-}
 
 /// Of eight requests, the same one at the last six places.
 const EIGHT: [u64; 8] = [0, 1, 2, 2, 2, 2, 2, 2];
@@ -98,11 +85,6 @@ const FOR_SEVERAL: [Row; 21] = [
     ),
 ];
 
-#[test]
-fn a_wait_for_several_ends_the_first_that_is_complete(rt: HostRuntime) -> Result<(), Fail> {
-    assert_all(&rt, rt.alloc(), &FOR_SEVERAL)
-}
-
 /// Eight requests that are apart, of which the last is complete.
 const EIGHT_APART: [Row; 11] = [
     (Plain(Create(0, 1)), Ok(Number(1024)), NONE_HELD),
@@ -125,11 +107,6 @@ const EIGHT_APART: [Row; 11] = [
         NONE_HELD,
     ),
 ];
-
-#[test]
-fn a_wait_for_eight(rt: HostRuntime) -> Result<(), Fail> {
-    assert_all(&rt, rt.alloc(), &EIGHT_APART)
-}
 
 /// A connection is made, packets are lent, and a request ends where its channel closes.
 const ON_A_CHANNEL: [Row; 18] = [
@@ -157,7 +134,26 @@ const ON_A_CHANNEL: [Row; 18] = [
     (Wait(0, 3, 0), Ok(Ended(Refusal::ChanClosed)), ONE_LENT),
 ];
 
+static CASES: [Case; 4] = [
+    (
+        "a wait makes the turns that it needs",
+        2,
+        None,
+        &FOR_ONE,
+        &LINES_FOR_ONE,
+    ),
+    (
+        "a wait for several ends the first that is complete",
+        2,
+        None,
+        &FOR_SEVERAL,
+        &[],
+    ),
+    ("a wait for eight", 2, None, &EIGHT_APART, &[]),
+    ("waits on a channel", 2, None, &ON_A_CHANNEL, &[]),
+];
+
 #[test]
-fn waits_on_a_channel(rt: HostRuntime) -> Result<(), Fail> {
-    assert_all(&rt, rt.alloc(), &ON_A_CHANNEL)
+fn waits_for_requests(rt: HostRuntime) -> Result<(), Fail> {
+    assert_cases(&rt, rt.alloc(), &CASES)
 }

@@ -61,3 +61,9 @@ returns-in-ReadPacket g c = stays g.S.SendEnd.Moved g.R.RecvEnd.Moved g.met.S.Se
 
 pub returns-in-Settled : goal.returns-in-Settled
 returns-in-Settled g c = stays g.S.SendEnd.Moved g.R.RecvEnd.Moved g.met.S.SendEnd.none g.met.R.RecvEnd.none c.args.domain.now
+
+pub returns-in-QueuedOn : goal.returns-in-QueuedOn
+returns-in-QueuedOn g c = stays g.S.SendEnd.Moved g.R.RecvEnd.Moved g.met.S.SendEnd.none g.met.R.RecvEnd.none c.args.domain.now
+
+pub returns-in-ChannelsGiven : goal.returns-in-ChannelsGiven
+returns-in-ChannelsGiven g c = stays g.S.SendEnd.Moved g.R.RecvEnd.Moved g.met.S.SendEnd.none g.met.R.RecvEnd.none c.args.domain.now
