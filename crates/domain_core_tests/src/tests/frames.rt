@@ -7,6 +7,7 @@ ghost use Rattle.lane_end.specs.AnyReceiver as any_receiver;
 ghost use Rattle.domain_core.specs.Opening.{IsOpenLink};
 
 mod channels;
+mod late;
 
 use super::*;
 use byteorder::{ByteOrder, LittleEndian};
