@@ -13,7 +13,7 @@ use std::test::Fail;
 use std::thread::Threads;
 
 mod bells;
-mod gates;
+pub mod gates;
 mod raw;
 mod rings;
 mod waits;

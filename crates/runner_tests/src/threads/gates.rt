@@ -46,10 +46,12 @@ impl Gate for Meeting {
     }
 }
 
-/// A gate that lets the lines of domains 0 and 1 go in the order of a list. A line that isn't in the list passes at once.
+/// A gate that lets the lines of two domains go in the order of a list. A line that isn't in the list passes at once.
 #[derive(Drop)]
 pub struct InOrder {
     list: Vec<(u8, u32)>,
+    /// The domain of the first line.
+    leader: u8,
     first: AtomicU64,
     second: AtomicU64,
     gave_up: AtomicBool,
@@ -57,8 +59,13 @@ pub struct InOrder {
 
 impl InOrder {
     pub fn new(list: Vec<(u8, u32)>) -> InOrder {
+        let leader = match list.first() {
+            Some((domain, _)) => *domain,
+            None => 0,
+        };
         InOrder {
             list,
+            leader,
             first: AtomicU64::new(0),
             second: AtomicU64::new(0),
             gave_up: AtomicBool::new(false),
@@ -72,7 +79,7 @@ impl InOrder {
 
     /// How many lines of a domain are done.
     fn done(&self, domain: u8) -> &AtomicU64 {
-        if domain == 0 {
+        if domain == self.leader {
             &self.first
         } else {
             &self.second
