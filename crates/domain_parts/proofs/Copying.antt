@@ -89,43 +89,54 @@ pub copied-next : (b : Book) (s : Slot) (most n size given count : ℕ) (old out
     → length ys ≡ length (mid_of given (most - given) out)
     → Copied b s most (n + 1) (size + length p) (given + count) old (put_mid given (most - given) out ys)
 copied-next b s most n size given count old out ys p c room queued told counted begun rest long =
-  record { size_is = grown; given_is = all-given; bytes = told-bytes; rest = told-rest; long = told-long }
+    record { size_is = grown; given_is = all-given; bytes = told-bytes; rest = told-rest; long = told-long }
   where
     before : List ℕ
     before = contents_of_frames b s.peer (take n (frames_at b s))
+
     next : contents_of_frames b s.peer (take (n + 1) (frames_at b s)) ≡ before ++ p
     next = content-next b s n p queued told
+
     grown : size + length p ≡ length (contents_of_frames b s.peer (take (n + 1) (frames_at b s)))
     grown = omega (arith, c.size_is, ap length next, length-append before p)
+
     middle : length (mid_of given (most - given) out) ≡ most - given
     middle = omega (arith, length-take (most - given) (drop given out), length-drop given out, c.long, c.given_is, room)
+
     counts : count ≡ min (most - given) (length p)
     counts = counted ∙ ap (λ (m : ℕ). min m (length p)) middle
+
     all-given : given + count ≡ min most (size + length p)
     all-given = omega (arith, c.given_is, counts)
+
     front : length (take given out) ≡ given
     front = omega (arith, length-take given out, c.long, c.given_is, room)
+
     behind : List ℕ
     behind = drop (most - given) (drop given out)
+
     copied : take (given + count) (put_mid given (most - given) out ys) ≡ take most before ++ take (most - given) p
     copied =
         ap (λ (m : ℕ). take (m + count) (take given out ++ (ys ++ behind))) (sym front)
         ∙ take-append-add (take given out) (ys ++ behind) count
         ∙ ap (λ (xs : List ℕ). xs ++ take count (ys ++ behind)) c.bytes
         ∙ ap (λ (xs : List ℕ). take most before ++ xs) (take-append-le count ys behind (omega (arith, counts, long, middle)) ∙ begun ∙ ap (λ (m : ℕ). take m p) middle)
+
     joined : take most before ++ take (most - given) p ≡ take most (before ++ p)
     joined = by (cases_lt most size)
       where
         by : (most < size) ⊎ (size ≤ most) → take most before ++ take (most - given) p ≡ take most (before ++ p)
         by (inl past) =
-          let none : most - given ≡ 0 = omega (arith, c.given_is, past) in
-          ap (λ (m : ℕ). take most before ++ take m p) none ∙ append-nil (take most before) ∙ sym (take-append-le most before p (omega (arith, c.size_is, past)))
+            let none : most - given ≡ 0 = omega (arith, c.given_is, past) in
+            ap (λ (m : ℕ). take most before ++ take m p) none ∙ append-nil (take most before) ∙ sym (take-append-le most before p (omega (arith, c.size_is, past)))
         by (inr within) =
-          let whole = take_all most before (omega (arith, c.size_is, within)) in
-          let there : length before + (most - given) ≡ most = omega (arith, c.size_is, c.given_is, within) in
-          ap (λ (xs : List ℕ). xs ++ take (most - given) p) whole ∙ sym (take-append-add before p (most - given)) ∙ ap (λ (m : ℕ). take m (before ++ p)) there
+            let whole = take_all most before (omega (arith, c.size_is, within)) in
+            let there : length before + (most - given) ≡ most = omega (arith, c.size_is, c.given_is, within) in
+            ap (λ (xs : List ℕ). xs ++ take (most - given) p) whole ∙ sym (take-append-add before p (most - given)) ∙ ap (λ (m : ℕ). take m (before ++ p)) there
+
     told-bytes : take (given + count) (put_mid given (most - given) out ys) ≡ take most (contents_of_frames b s.peer (take (n + 1) (frames_at b s)))
     told-bytes = copied ∙ joined ∙ ap (take most) (sym next)
+
     told-rest : drop (given + count) (put_mid given (most - given) out ys) ≡ drop (given + count) old
     told-rest =
         ap (λ (m : ℕ). drop (m + count) (take given out ++ (ys ++ behind))) (sym front)
@@ -135,5 +146,6 @@ copied-next b s most n size given count old out ys p c room queued told counted 
         ∙ sym (drop-append-le count (mid_of given (most - given) out) behind (omega (arith, counts, middle)))
         ∙ ap (drop count) (take-append-drop (most - given) (drop given out) ∙ c.rest)
         ∙ drop-drop count given old
+
     told-long : length (put_mid given (most - given) out ys) ≡ length old
     told-long = omega (arith, length-append (take given out) (ys ++ behind), length-append ys behind, front, long, middle, length-drop (most - given) (drop given out), length-drop given out, c.long, c.given_is, room)

@@ -26,11 +26,11 @@ mod requests;
 mod room;
 mod wait_fault;
 
+pub use buffer_book::Places;
 pub use carrying::MeetingEnds;
 pub use ends::Ends;
 pub use fates::fault_fate;
 pub use holdings::{Holdings, carry};
-pub use buffer_book::Places;
 pub use link::Link;
 pub use link_room::LinkRoom;
 pub use peer::Peer;
