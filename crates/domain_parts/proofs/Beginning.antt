@@ -9,7 +9,6 @@ use Rattle.mc_base.specs.declared.request.Slot.{Slot}
 use Rattle.board_model.proofs.ListsCounts.{count-cons}
 use Rattle.request_set.specs.declared.ask.Ask.{Ask}
 use Rattle.request_set.specs.declared.ask.Complete.{Complete}
-use Rattle.request_set.specs.declared.ask.Complete.TheVariants as complete
 use Rattle.request_set.specs.Requests.{Requests, Standing, completed, is_id, keys, with_complete, with_request}
 use Rattle.board_model.specs.State.{DomainState}
 use Rattle.domain_parts.specs.Calls.{IsFresh}

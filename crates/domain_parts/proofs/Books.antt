@@ -8,7 +8,7 @@ use Rattle.mc_base.specs.declared.request.Slot.{Slot}
 use Rattle.buffer_book.specs.Book.{Book, IsAway, IsFree, Item, Kept, NoneAside, Shelf, frames_of, is_state, item_at, kept_at, left_of, lent_on, lent_under, name_at, place_at, shelf_of, taken, with_lent, with_own, with_queued, with_shelf, with_taken, enqueued}
 use Rattle.buffer_book.proofs.Sets.{set-other}
 use Rattle.buffer_book.proofs.ShelfLemmas.{KeepsPeer, enqueued-peer, taken-peer}
-use Rattle.buffer_book.proofs.ItemLemmas.{at-other_peer, at-own, enqueued-item, enqueued-name, enqueued-name_kept, enqueued-place, enqueued-place_kept, item-name, lent-name, lent-name_kept, lent-place_kept, name-item, single, taken-name, taken-name_kept, taken-place, taken-shelf}
+use Rattle.buffer_book.proofs.ItemLemmas.{at-other_peer, at-own, enqueued-name, enqueued-name_kept, enqueued-place, enqueued-place_kept, item-name, lent-name, lent-name_kept, lent-place_kept, name-item, single, taken-name, taken-name_kept, taken-place, taken-shelf}
 use Rattle.buffer_book.proofs.NoneAside.{none-enqueued, none-lent, none-taken}
 use Rattle.domain_parts.specs.InBook.{Whole, frames_at, frames_in, pieces_of, slot_at, whole_at, whole_of}
 use Rattle.domain_parts.specs.InPlaces.{is_same}

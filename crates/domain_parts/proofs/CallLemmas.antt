@@ -4,7 +4,6 @@ use Rattle.std.specs.Prelude.{IfSome, option_to_list}
 use Rattle.std.proofs.lemmas.List.{append-nil}
 use Rattle.mc_base.specs.declared.refusal.Refusal.{Refusal}
 use Rattle.mc_base.specs.declared.request.RequestId.{RequestId}
-use Rattle.mc_base.specs.declared.request.Slot.{Slot}
 use Rattle.board_model.specs.DomainCall.{DomainCall, turn_alone}
 use Rattle.board_model.specs.Journal.{Line, PlainAnswer, agrees, noted_all}
 use Rattle.board_model.specs.Labels.{success_packet}
@@ -15,8 +14,7 @@ use Rattle.board_model.specs.Answer.{answer, puts, refusal, success_puts, unless
 use Rattle.board_model.specs.Change.{changed_all}
 use Rattle.board_model.specs.CallChanges.{effect, returned, success_changes, success_returned}
 use Rattle.board_model.specs.Serial.{put_entry}
-use Rattle.board_model.specs.Unnamed.{no_names, unnamed, unnamed_item}
-use Rattle.board_model.proofs.RenamedGiven.{returned-renamed}
+use Rattle.board_model.specs.Unnamed.{no_names, unnamed}
 use Rattle.board_model.proofs.RenamedLabels.{given-renamed}
 use Rattle.board_model.proofs.RenamedCalls.{answer-renamed, puts-renamed}
 use Rattle.domain_parts.specs.AllMoved.{AllMoved, call_moves, moves_at, numbers_of}

@@ -1,6 +1,6 @@
 -- What the steps of the calls mean that make, open and close channels.
 use Rattle.std.proofs.Common.{◌≡◌, ℕ, zero, suc, ◌+◌, Bool, true, false, cond, List, [], ◌∷◌, ◌++◌, length, map, Option, Some, None, refl, sym, ap, ◌∙◌, subst}
-use Rattle.std.specs.Prelude.{Ok, find, option_map, position, slice_get, unwrap_or, ◌==◌}
+use Rattle.std.specs.Prelude.{Ok, option_map, position, slice_get, unwrap_or, ◌==◌}
 use Rattle.std.specs.List.{flat_map}
 use Rattle.std.proofs.lemmas.List.{append-nil}
 use Rattle.mc_base.specs.Frame.{made}
@@ -12,11 +12,10 @@ use Rattle.mc_base.specs.declared.name.EndName.{EndName}
 use Rattle.mc_base.specs.declared.name.Local.{Local}
 use Rattle.mc_base.specs.declared.refusal.Refusal.TheVariants.{ChanClosed}
 use Rattle.mc_base.specs.declared.request.RequestId.{RequestId}
-use Rattle.mc_base.specs.declared.request.Slot.{Slot}
 use Rattle.board_model.proofs.MessageAlls.{found-passes}
 use Rattle.board_model.proofs.MessageLists.{changed-position}
 use Rattle.board_model.proofs.StateEnds.{ByAddress, by_address, named_so}
-use Rattle.board_model.specs.Answer.{Post, address_of, channel_at, closing_letter, opening_letter, post, puts_of, success, success_puts}
+use Rattle.board_model.specs.Answer.{address_of, channel_at, closing_letter, opening_letter, post, puts_of, success, success_puts}
 use Rattle.board_model.specs.Journal.{tells}
 use Rattle.board_model.specs.CallChanges.{at_channel, at_end, at_live, closing, new_sender, success_changes}
 use Rattle.board_model.specs.Change as change

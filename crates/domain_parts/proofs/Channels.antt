@@ -1,6 +1,6 @@
 -- Ends of channels as a domain has them, the words of the calls at them, and the letters that these put.
-use Rattle.std.proofs.Common.{◌≡◌, ℕ, ◌<◌, Bool, true, false, cond, List, [], ◌∷◌, length, map, Option, Some, None, is_some, refl, sym, ap, ap₂, ◌∙◌, subst, arith}
-use Rattle.std.specs.Prelude.{Result, Ok, Err, find, nat_le, nat_lt, not, option_and_then, option_map, slice_get, ◌==◌, ◌||◌}
+use Rattle.std.proofs.Common.{◌≡◌, ℕ, ◌<◌, Bool, true, false, cond, List, [], ◌∷◌, length, Option, Some, None, is_some, refl, sym, ap, ap₂, ◌∙◌, arith}
+use Rattle.std.specs.Prelude.{Ok, Err, find, nat_le, nat_lt, not, option_map, slice_get, ◌==◌, ◌||◌}
 use Rattle.std.specs.List.{list_any}
 use Rattle.std.proofs.lemmas.List.{length-map}
 use Rattle.mc_base.specs.Letter.{PlainLetter}
@@ -11,7 +11,6 @@ use Rattle.mc_base.specs.declared.name.EndName.{EndName}
 use Rattle.mc_base.specs.declared.name.Local.{Local}
 use Rattle.mc_base.specs.declared.refusal.Refusal.{Refusal}
 use Rattle.mc_base.specs.declared.refusal.Refusal.TheVariants.{AlreadyOpen, ChanClosed, ChanConnected, ChanDirection, ChanLimit, ChanType, EndpBusy, EndpInvalid, NoBuffer, NotConnected, NotOpen, PeerInvalid, RequestLimit}
-use Rattle.mc_base.specs.declared.request.RequestId.{RequestId}
 use Rattle.board_model.proofs.MessageLists.{get-position}
 use Rattle.board_model.specs.Answer.{address_of, channel_at, end_holds, has_channel, lacks_buffers, local, over_channel, over_end, post, refusal, success_puts}
 use Rattle.board_model.specs.ChannelEnds.{EndCall, closes, end_refusal, end_refuses, opened_end, opens}
@@ -26,7 +25,7 @@ use Rattle.packet_channel.specs.declared.channel.Stage.{Stage}
 use Rattle.packet_channel.specs.declared.channel.Stage.TheVariants as stage
 use Rattle.request_set.specs.Requests.{Standing, oldest_waiting, waits_at}
 use Rattle.domain_parts.specs.CallSteps.{as_channel, stage_from}
-use Rattle.domain_parts.specs.InBook.{request_in, requests_in}
+use Rattle.domain_parts.specs.InBook.{requests_in}
 use Rattle.domain_parts.specs.Parts.{Parts, state_of}
 use Rattle.domain_parts.specs.Records.{kept, waiting_in}
 use Rattle.domain_parts.proofs.Receives.{waits-map}

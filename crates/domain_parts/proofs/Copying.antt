@@ -1,14 +1,13 @@
 -- The content of an item, copied frame by frame.
-use Rattle.std.proofs.Common.{◌≡◌, ℕ, zero, suc, ◌+◌, ◌-◌, ◌<◌, ◌≤◌, Bool, true, false, cond, List, [], ◌∷◌, ◌++◌, length, map, take, drop, Option, None, Some, refl, sym, ap, ◌∙◌, subst, arith, length-append, add-one, ◌⊎◌, inl, inr}
-use Rattle.std.specs.Prelude.{is_some, min, option_and_then, option_map, option_to_list, slice_get}
-use Rattle.std.specs.List.{flat_map}
+use Rattle.std.proofs.Common.{◌≡◌, ℕ, zero, suc, ◌+◌, ◌-◌, ◌<◌, ◌≤◌, Bool, cond, List, [], ◌∷◌, ◌++◌, length, map, take, drop, Option, None, Some, refl, sym, ap, ◌∙◌, arith, length-append, add-one, ◌⊎◌, inl, inr}
+use Rattle.std.specs.Prelude.{min, option_and_then, option_map, option_to_list, slice_get}
 use Rattle.std.proofs.lemmas.List.{append-nil, append_assoc, length-take, length-drop, take-append-drop, take-append-le, take_all, drop-append-le, drop-drop}
 use Rattle.std.proofs.Math.Seq.{take-append-add, drop-append-add}
 use Rattle.std.proofs.lemmas.Bool.{cases_lt}
 use borrow.Rule.Slice.PartMut.{mid_of, put_mid}
 use Rattle.mc_base.specs.declared.request.Slot.{Slot}
 use Rattle.buffer_book.specs.Book.{Book, IsQueued, Item, Kept, content, frame_at, frames_of, if_state, item_at, kept_at, queued_at}
-use Rattle.domain_parts.specs.InBook.{content_in, contents_in, frames_at, frames_in, joined_content, pieces_of, slot_at, whole_at, whole_of}
+use Rattle.domain_parts.specs.InBook.{content_in, frames_at, frames_in, joined_content, pieces_of, slot_at, whole_at, whole_of}
 use Rattle.domain_parts.proofs.Books.{frames-some}
 use Rattle.domain_parts.proofs.Placed.{queued-same}
 

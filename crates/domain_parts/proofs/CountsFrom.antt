@@ -1,9 +1,9 @@
 -- How many frames from a peer are held, by the lists of slots and by the book.
 use Rattle.std.proofs.Common.{◌≡◌, ℕ, zero, suc, ◌+◌, ◌*◌, ◌<◌, ◌≤◌, Bool, true, false, cond, List, [], ◌∷◌, ◌++◌, length, map, take, Option, Some, None, refl, sym, ap, ◌∙◌, subst, arith, eq-eqb, length-append, ne_eqb, is_some, add-one}
-use Rattle.std.specs.Prelude.{count_by, filter, is_none, nat_lt, option_and_then, option_map, position, slice_get, sum_by, ◌==◌, ◌&&◌, ◌-◌}
+use Rattle.std.specs.Prelude.{count_by, filter, is_none, nat_lt, option_and_then, option_map, position, slice_get, sum_by, ◌==◌, ◌-◌}
 use Rattle.std.specs.List.{AllByRecursion, flat_map}
 use Rattle.std.proofs.lemmas.Bool.{eqb-true, ltb-true, ltb-false}
-use Rattle.std.proofs.lemmas.List.{length-map, map-append, take_all}
+use Rattle.std.proofs.lemmas.List.{length-map, take_all}
 use Rattle.std.proofs.lemmas.List.Sums.{sum_by-append, sum_by-cons}
 use Rattle.std.proofs.lemmas.Simd.{map-map}
 use Rattle.mc_base.specs.declared.request.PacketId.{PacketId}
@@ -16,7 +16,7 @@ use Rattle.buffer_book.specs.Book.{AreNone, Aside, Book, IsQueued, Shelf, aside_
 use Rattle.endpoint_table.specs.Table as endpoint_table
 use Rattle.lane_end.specs.Numbers.{often}
 use Rattle.lane_end.specs.ReceiverContract.{without}
-use Rattle.lane_end.proofs.CountLemmas.{length-apart, length-without, often-append, often-without, tick, tick-same}
+use Rattle.lane_end.proofs.CountLemmas.{length-apart, often-append, often-without, tick, tick-same}
 use Rattle.message_queue.specs.Queue.{Waiting}
 use Rattle.request_set.specs.Requests.{Requests, Standing}
 use Rattle.domain_parts.specs.LaneSeen.{LaneSeen}

@@ -1,5 +1,5 @@
 -- What the steps of the calls mean that send and receive items on channels.
-use Rattle.std.proofs.Common.{◌≡◌, ℕ, Bool, true, false, cond, List, [], ◌∷◌, ◌++◌, ◌<◌, ◌≤◌, drop, take, length, map, Option, Some, None, refl, sym, ap, ◌∙◌, subst, arith}
+use Rattle.std.proofs.Common.{◌≡◌, ℕ, Bool, true, false, cond, List, [], ◌∷◌, ◌++◌, ◌<◌, ◌≤◌, drop, take, length, map, Option, Some, None, refl, sym, ap, ◌∙◌, arith}
 use Rattle.std.specs.Prelude.{Err, Ok, Result, not, option_and_then, option_map, option_to_list, position, slice_get, ◌==◌}
 use Rattle.std.specs.List.{flat_map}
 use Rattle.std.proofs.lemmas.Bool.{ne_eqb}
@@ -37,7 +37,7 @@ use Rattle.domain_parts.specs.CallSteps.{Means, call_steps, dropped_at, if_some,
 use Rattle.domain_parts.specs.InBook.{endpoints_in, numbered_at, item_in}
 use Rattle.domain_parts.specs.Parts.{Parts, Sound, plain, state_of}
 use Rattle.domain_parts.specs.Records.{waiting_in}
-use Rattle.domain_parts.specs.Steps.{Step, all_moves, done, done_all, oldest_dropped}
+use Rattle.domain_parts.specs.Steps.{Step, all_moves, done, done_all}
 use Rattle.board_model.proofs.StateEnds.{by_address}
 use Rattle.domain_parts.proofs.CallsAgree.{returned-agrees, there_at}
 use Rattle.domain_parts.proofs.ChannelMeaning.{changed-there, end-changes, used-is}

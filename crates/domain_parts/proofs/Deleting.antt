@@ -26,7 +26,7 @@ use Rattle.domain_parts.specs.Records.{Records, all_waiting, waiting_in, with_ol
 use Rattle.domain_parts.specs.Sound.{AreSound, out_at}
 use Rattle.domain_parts.specs.Tied.{AreTied}
 use Rattle.domain_parts.specs.InBook.{endpoint_in, endpoints_in, frames_at, item_in}
-use Rattle.domain_parts.specs.InRequests.{handed_slots, with_all_complete}
+use Rattle.domain_parts.specs.InRequests.{with_all_complete}
 use Rattle.domain_parts.specs.declared.requests.Waiters.{Waiters}
 use Rattle.domain_parts.specs.declared.requests.Waiters.TheVariants as waiters
 use Rattle.domain_parts.specs.Steps.{without_frames}
@@ -35,7 +35,6 @@ use Rattle.domain_parts.proofs.Completing.{handed-all, receives-all}
 use Rattle.domain_parts.proofs.GivingLemmas.{InPlacesAt, leaves-out, oldest-same, sound-given, stands-queued}
 use Rattle.domain_parts.proofs.Placed.{HasMore, times-here}
 use Rattle.domain_parts.proofs.Queuing.{out-fewer, out-more, same-held}
-use Rattle.domain_parts.proofs.Slots.{slots}
 
 -- ---- the oldest of a queue
 

@@ -4,9 +4,8 @@ use Rattle.std.specs.List.{AllByRecursion, flat_map}
 use Rattle.std.proofs.lemmas.List.{map-append}
 use Rattle.board_model.proofs.ListsCounts.{count-cons}
 use Rattle.board_model.proofs.MessageVisitLines.{count-map}
-use Rattle.std.specs.Prelude.{filter, is_some, option_map, slice_get, unwrap_or, ◌==◌}
+use Rattle.std.specs.Prelude.{filter, option_map, slice_get, unwrap_or, ◌==◌}
 use Rattle.std.proofs.lemmas.List.{append-nil}
-use Rattle.std.proofs.lemmas.List.Elements.{Contains-append_left, Contains-append_right}
 use Rattle.mc_base.specs.declared.name.Local.{Local}
 use Rattle.mc_base.specs.declared.refusal.Refusal.TheVariants.{EndpInvalid}
 use Rattle.mc_base.specs.declared.request.Slot.{Slot}
@@ -27,7 +26,7 @@ use Rattle.domain_parts.specs.declared.peer.Peer.{Peer}
 use Rattle.domain_parts.specs.declared.requests.Waiters.TheVariants as waiters
 use Rattle.domain_parts.specs.AllMoved.{giving}
 use Rattle.domain_parts.specs.CallSteps.{Means, call_steps, dropped_at, drops, if_some}
-use Rattle.domain_parts.specs.InBook.{endpoints_in, frames_at, frames_in, numbered_at}
+use Rattle.domain_parts.specs.InBook.{frames_at, frames_in, numbered_at}
 use Rattle.domain_parts.specs.LaneMoves.{LaneMove, receiver}
 use Rattle.domain_parts.specs.Parts.{Parts, Sound, plain, state_of}
 use Rattle.domain_parts.specs.Peers.{state_in}

@@ -1,10 +1,10 @@
 -- The items that a domain holds are no more than the buffers that are out, and these no more than its lanes have.
-use Rattle.std.proofs.Common.{◌≡◌, ℕ, zero, suc, ◌+◌, ◌*◌, ◌<◌, ◌≤◌, Bool, true, false, cond, List, [], ◌∷◌, ◌++◌, length, map, refl, sym, ap, ◌∙◌, subst, arith, eq-eqb, length-append}
+use Rattle.std.proofs.Common.{◌≡◌, ℕ, zero, suc, ◌+◌, ◌<◌, ◌≤◌, Bool, true, false, cond, List, [], ◌∷◌, ◌++◌, length, map, refl, sym, ap, ◌∙◌, arith, eq-eqb, length-append}
 use Rattle.std.specs.Prelude.{Contains, count_by, filter, is_some, ◌==◌, ◌&&◌}
 use Rattle.std.specs.List.{AllByRecursion}
 use Rattle.std.proofs.lemmas.List.{length-map}
 use Rattle.mc_base.specs.declared.request.Slot.{Slot}
-use Rattle.board_model.proofs.ListsCounts.{count-append, count-cons}
+use Rattle.board_model.proofs.ListsCounts.{count-cons}
 use Rattle.lane_end.specs.Numbers.{often}
 use Rattle.lane_end.specs.ReceiverContract.{without}
 use Rattle.lane_end.proofs.CountLemmas.{length-apart, length-without, often-without, tick}
@@ -15,12 +15,12 @@ use Rattle.domain_parts.specs.LaneSeen.{LaneSeen}
 use Rattle.domain_parts.specs.declared.peer.Peer.{Peer}
 use Rattle.domain_parts.specs.AllMoved.{numbers_of}
 use Rattle.domain_parts.specs.InBook.{slot_at}
-use Rattle.domain_parts.specs.InPlaces.{AreInPlaces, is_of, is_same, one_if, slots_of, times_in}
+use Rattle.domain_parts.specs.InPlaces.{is_of, is_same, one_if, slots_of, times_in}
 use Rattle.domain_parts.specs.Records.{Records, lent_slots}
-use Rattle.domain_parts.specs.Sound.{AreRising, AreSound, buffers_count, out_at, outs_count}
+use Rattle.domain_parts.specs.Sound.{AreSound, buffers_count, outs_count}
 use Rattle.domain_parts.proofs.Books.{itself, often-own}
 use Rattle.domain_parts.proofs.GivingLemmas.{InPlacesAt, all-stand, item-shelf}
-use Rattle.domain_parts.proofs.Placed.{Stands, item-kept, item-times, one-most, one-there}
+use Rattle.domain_parts.proofs.Placed.{Stands, item-kept, item-times, one-there}
 
 -- ---- lists of numbers
 

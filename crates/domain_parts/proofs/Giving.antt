@@ -1,10 +1,10 @@
 -- The frames of an item, taken out of the book and given back one after the other.
-use Rattle.std.proofs.Common.{◌≡◌, ℕ, zero, suc, ◌+◌, ◌<◌, ◌≤◌, Bool, true, false, cond, List, [], ◌∷◌, ◌++◌, length, map, Option, None, Some, refl, sym, ap, ◌∙◌, subst, arith, eq-eqb, length-append}
-use Rattle.std.specs.Prelude.{Contains, IsNone, is_some, option_and_then, option_map}
+use Rattle.std.proofs.Common.{◌≡◌, ℕ, suc, ◌+◌, ◌<◌, ◌≤◌, Bool, true, cond, List, [], ◌∷◌, ◌++◌, length, Option, None, Some, refl, sym, ap, ◌∙◌, subst, arith, eq-eqb, length-append}
+use Rattle.std.specs.Prelude.{Contains, is_some, option_and_then, option_map}
 use Rattle.std.proofs.lemmas.Bool.{eqb-true}
 use Rattle.std.proofs.lemmas.List.{append-nil, append_assoc, map-append}
 use Rattle.mc_base.specs.declared.request.Slot.{Slot}
-use Rattle.buffer_book.specs.Book.{Book, Item, NoneAside, count_of, frames_of, if_state, is_state, item_at, left_of, with_taken}
+use Rattle.buffer_book.specs.Book.{Book, Item, NoneAside, count_of, if_state, is_state, item_at, left_of, with_taken}
 use Rattle.buffer_book.proofs.ItemLemmas.{item-name, taken-name}
 use Rattle.buffer_book.proofs.NoneAside.{none-taken}
 use Rattle.lane_end.specs.ReceiveMoves.{Gave}

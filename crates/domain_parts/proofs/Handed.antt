@@ -1,6 +1,6 @@
 -- Messages that complete requests hold, by the book of buffers.
 use Rattle.std.proofs.Common.{◌≡◌, ℕ, zero, suc, ◌≤◌, false, List, [], ◌∷◌, ◌++◌, length, map, take, Option, Some, None, refl, sym, ap, ◌∙◌, arith}
-use Rattle.std.specs.Prelude.{count_by, option_map, slice_get}
+use Rattle.std.specs.Prelude.{option_map, slice_get}
 use Rattle.std.specs.List.{flat_map}
 use Rattle.std.proofs.lemmas.List.{map-append}
 use Rattle.mc_base.specs.declared.request.PacketId.{PacketId}
@@ -9,7 +9,6 @@ use Rattle.mc_base.specs.declared.request.Slot.{Slot}
 use Rattle.board_model.specs.State as state
 use Rattle.board_model.specs.State.{Item, LentPacket, Request, is_from}
 use Rattle.board_model.proofs.ListsCounts.{count-append, count-cons}
-use Rattle.board_model.proofs.MessageVisitLines.{count-map}
 use Rattle.buffer_book.specs.Book.{Book, slot_of}
 use Rattle.request_set.specs.declared.ask.Ask.{Ask}
 use Rattle.request_set.specs.declared.ask.Complete.{Complete}
@@ -17,7 +16,7 @@ use Rattle.request_set.specs.declared.ask.Complete.TheVariants as complete
 use Rattle.request_set.specs.Requests.{Standing}
 use Rattle.domain_parts.specs.InBook.{Whole, item_read, numbered_at, outcome_in, packet_in, packets_in, priority_in, request_in, requests_in}
 use Rattle.domain_parts.specs.InRequests.{handed_slots, slots_in}
-use Rattle.domain_parts.specs.InPlaces.{is_of, is_same, times_in}
+use Rattle.domain_parts.specs.InPlaces.{is_same, times_in}
 use Rattle.domain_parts.proofs.Books.{Others, differ-back}
 use Rattle.domain_parts.proofs.Placed.{no-one}
 

@@ -1,21 +1,18 @@
 -- A slot that leaves the queues or the requests, and whose item is taken out of the book: the lane of its peer has its frames back, and every
 -- other lane stays in order.
-use Rattle.std.proofs.Common.{◌≡◌, ℕ, ◌+◌, ◌≤◌, Bool, true, false, refl, List, [], ◌∷◌, ◌++◌, length, map, Option, None, Some, sym, ap, ◌∙◌, subst, arith}
+use Rattle.std.proofs.Common.{◌≡◌, ℕ, ◌≤◌, true, refl, List, [], ◌∷◌, map, Option, None, Some, sym, ap, ◌∙◌, subst, arith}
 use Rattle.std.specs.Prelude.{count_by, is_some, option_and_then}
 use Rattle.std.specs.List.{AllByRecursion}
 use Rattle.std.proofs.lemmas.List.{append-nil}
 use Rattle.mc_base.specs.declared.request.PacketId.{PacketId}
 use Rattle.mc_base.specs.declared.request.Slot.{Slot}
-use Rattle.board_model.specs.State as state
-use Rattle.board_model.specs.State.{LentPacket}
 use Rattle.board_model.proofs.ListsCounts.{count-cons}
 use Rattle.buffer_book.specs.Book.{Book, Item, frames_of, if_state, is_state, item_at, slot_of}
 use Rattle.message_queue.specs.Queue.{Waiting}
 use Rattle.request_set.specs.Requests.{Requests}
-use Rattle.domain_parts.specs.Table.{with_held}
 use Rattle.domain_parts.specs.Records.{Records, all_waiting, lent_slots}
 use Rattle.domain_parts.specs.Out.{Out}
-use Rattle.domain_parts.specs.InBook.{endpoints_in, frames_at, held_by, packets_in, requests_in, table_in}
+use Rattle.domain_parts.specs.InBook.{endpoints_in, frames_at, packets_in, requests_in}
 use Rattle.domain_parts.specs.InRequests.{handed_slots}
 use Rattle.domain_parts.specs.InPlaces.{AreInPlaces, AreInPlacesBeside, EachInPlace, IsLentAs, KeepOthers, is_misplaced, is_same, one_if, slots_of, times_in, times_waiting}
 use Rattle.domain_parts.specs.Steps.{without_frames}
@@ -23,7 +20,7 @@ use Rattle.domain_parts.proofs.Books.{Others, differ-back, same-item}
 use Rattle.domain_parts.proofs.Handed.{packets-stay, requests-stay}
 use Rattle.domain_parts.proofs.Placed.{HasMore, IsLane, Stands, in-place, lane-of, more-before, more-queued, no-one, none-left, queued-not_lent, queued-same, stands-of, times-there}
 use Rattle.domain_parts.proofs.Placing.{lane-out, lane-same, out-changes, out-others, out-stands}
-use Rattle.domain_parts.proofs.Slots.{length-more, misplaced-stay, times-all}
+use Rattle.domain_parts.proofs.Slots.{misplaced-stay, times-all}
 use Rattle.domain_parts.proofs.Waits.{endpoints-stay}
 
 -- a slot is given up: its lane has its frames back, and every other lane stays in order

@@ -9,7 +9,6 @@ use Rattle.mc_base.specs.declared.request.Slot.{Slot}
 use Rattle.board_model.specs.Change.{changed, packet_lent}
 use Rattle.board_model.specs.State as state
 use Rattle.board_model.specs.State.{Item, LentPacket}
-use Rattle.board_model.specs.Unnamed.{unnamed_item}
 use Rattle.board_model.proofs.ListsCounts.{count-append, count-cons}
 use Rattle.buffer_book.specs.Book as book
 use Rattle.buffer_book.specs.Book.{Book, if_state, is_state, item_at, lent_under, slot_of, with_lent}

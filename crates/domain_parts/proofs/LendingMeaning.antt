@@ -4,15 +4,12 @@ use Rattle.domain_parts.proofs.Meaning.{left-ids}
 use Rattle.domain_parts.proofs.Receives.{map-without}
 use Rattle.board_model.specs.Labels.{packet_tested}
 use Rattle.board_model.specs.Lists.{changed_at}
-use Rattle.lane_end.proofs.CountLemmas.{length-apart}
-use Rattle.domain_parts.specs.AllMoved.{moves_at, numbers_of}
-use Rattle.domain_parts.specs.Sound.{buffers_count, out_at, outs_count}
+use Rattle.domain_parts.specs.AllMoved.{moves_at}
 use Rattle.domain_parts.specs.InRequests.{AreReceives, handed_slots}
 use Rattle.domain_parts.specs.declared.endpoints.Endpoint.{Endpoint}
-use Rattle.std.specs.List.{AllByRecursion}
-use Rattle.domain_parts.specs.InPlaces.{AreInPlaces, slots_of, times_in}
-use Rattle.std.proofs.Common.{◌≡◌, ℕ, ◌+◌, Bool, true, false, cond, List, [], ◌∷◌, ◌++◌, drop, length, map, Option, Some, None, refl, sym, ap, ◌∙◌, subst, arith, ◌<◌, ◌≤◌, zero, suc}
-use Rattle.std.specs.Prelude.{is_some, option_and_then, option_map, slice_get, ◌==◌, unwrap_or, Contains}
+use Rattle.domain_parts.specs.InPlaces.{slots_of, times_in}
+use Rattle.std.proofs.Common.{◌≡◌, ℕ, ◌+◌, true, List, [], ◌∷◌, drop, length, map, Option, Some, None, refl, sym, ap, ◌∙◌, subst, arith, ◌<◌, zero, suc}
+use Rattle.std.specs.Prelude.{is_some, option_map, slice_get}
 use Rattle.std.proofs.lemmas.List.{append-nil}
 use Rattle.mc_base.specs.declared.name.Local.{Local}
 use Rattle.mc_base.specs.declared.request.PacketId.{PacketId}
@@ -20,7 +17,7 @@ use Rattle.mc_base.specs.declared.request.RequestId.{RequestId}
 use Rattle.mc_base.specs.declared.request.Slot.{Slot}
 use Rattle.board_model.specs.Answer.{lent_whole, success, result_of}
 use Rattle.board_model.specs.CallChanges.{at_live, lending, success_changes, held_by, lent_by_test}
-use Rattle.board_model.specs.Change.{Change, changed, changed_all, oldest_gone, packet_lent, request_added, with_queue, request_gone}
+use Rattle.board_model.specs.Change.{changed, changed_all, oldest_gone, packet_lent, request_added, with_queue, request_gone}
 use Rattle.board_model.specs.Choice.{oldest}
 use Rattle.board_model.specs.DomainCall.{lend_at, packet_request_at, test_of}
 use Rattle.board_model.specs.State as state
@@ -44,7 +41,7 @@ use Rattle.domain_parts.specs.Peers.{state_in}
 use Rattle.domain_parts.specs.Records.{Records, lent_slots, waiting_in, with_last_lent, with_oldest_taken_at, all_waiting, with_oldest_taken}
 use Rattle.domain_parts.specs.Steps.{Step, all_moves, done, done_all, next_lent, oldest_lent, packet_begun, with_last, request_begun, packet_ended, step_moves, without_at}
 use Rattle.domain_parts.proofs.Asking.{asked-state}
-use Rattle.domain_parts.proofs.Beginning.{last-ids, last-more, pending-same}
+use Rattle.domain_parts.proofs.Beginning.{last-ids, last-more}
 use Rattle.domain_parts.proofs.CallsAgree.{at-live, there_at}
 use Rattle.domain_parts.proofs.ChannelMeaning.{changed-there}
 use Rattle.domain_parts.proofs.DataMeaning.{oldest-there, no-oldest}

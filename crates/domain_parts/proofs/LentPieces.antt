@@ -1,6 +1,6 @@
 -- The pieces of a lent packet: what the book has of its frames is what a contract sees of them.
 use Rattle.std.proofs.Common.{◌≡◌, ◌≤◌, ◌<◌, ◌+◌, ◌∙◌, ℕ, zero, suc, Bool, true, false, List, [], ◌∷◌, ◌++◌, length, map, Option, Some, None, ap, refl, sym, subst, arith}
-use Rattle.std.specs.Prelude.{◌==◌, IfSome, IsNone, is_some, option_and_then, option_map, option_to_list, slice_get}
+use Rattle.std.specs.Prelude.{◌==◌, is_some, option_and_then, option_map, option_to_list, slice_get}
 use Rattle.std.proofs.lemmas.Bool.{eqb-true}
 use Rattle.std.proofs.lemmas.List.{length-map}
 use Rattle.std.proofs.lemmas.Option.{slice_get-map}
@@ -9,8 +9,8 @@ use Rattle.mc_base.specs.declared.request.PacketId.{PacketId}
 use Rattle.board_model.specs.State.{LentPacket, packet_at_place}
 use Rattle.buffer_book.specs.Book.{Book, Item, Kept, content, count_of, frame_at, frames_of, if_state, item_at, kept_at, lent_as, slot_of}
 use Rattle.buffer_book.proofs.NoneAside.{lent-plain}
-use Rattle.domain_parts.specs.DomainView.{content_by, place_of_packet_id}
-use Rattle.domain_parts.specs.InBook.{contents_in, contents_of, frames_at, joined_content, packet_in, pieces_of, slot_at, whole_at, whole_of}
+use Rattle.domain_parts.specs.DomainView.{place_of_packet_id}
+use Rattle.domain_parts.specs.InBook.{contents_in, contents_of, joined_content, packet_in, pieces_of, slot_at, whole_at, whole_of}
 use Rattle.domain_parts.specs.InPlaces.{lent_item, slots_of}
 use Rattle.domain_parts.specs.Parts.{Parts, Sound, plain, state_of}
 use Rattle.domain_parts.specs.Records.{lent_slots}

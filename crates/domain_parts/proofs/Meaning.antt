@@ -1,5 +1,5 @@
 -- What the steps of each call's success mean.
-use Rattle.std.proofs.Common.{◌≡◌, ℕ, ◌+◌, Bool, true, false, cond, List, [], ◌∷◌, ◌++◌, map, Option, Some, None, refl, sym, ap, ◌∙◌, subst}
+use Rattle.std.proofs.Common.{◌≡◌, ℕ, ◌+◌, Bool, true, false, cond, List, [], ◌∷◌, ◌++◌, map, Option, Some, None, refl, sym, ap, ◌∙◌}
 use Rattle.std.specs.Prelude.{option_and_then, option_map, option_to_list, position, slice_get, ◌==◌}
 use Rattle.std.specs.List.{flat_map}
 use Rattle.std.proofs.lemmas.List.{append-nil}
@@ -37,7 +37,7 @@ use Rattle.domain_parts.specs.CallSteps.{Means, best_slot, call_steps, ending, i
 use Rattle.domain_parts.specs.DomainView.{place_of_id}
 use Rattle.domain_parts.specs.GivingBack.{AreOutAt}
 use Rattle.domain_parts.specs.InBook.{endpoints_in, frames_at, item_in, numbered_at, outcome_in, request_in}
-use Rattle.domain_parts.specs.InRequests.{AreReceives, handed_slots, slots_in, with_all_complete}
+use Rattle.domain_parts.specs.InRequests.{AreReceives, handed_slots, with_all_complete}
 use Rattle.buffer_book.specs.Book.{Book}
 use Rattle.domain_parts.specs.LaneMoves.{sender}
 use Rattle.domain_parts.specs.Parts.{Parts, Sound, plain, state_of}

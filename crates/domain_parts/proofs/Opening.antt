@@ -41,7 +41,7 @@ use Rattle.domain_parts.specs.Out.{out_of}
 use Rattle.domain_parts.specs.Owed.{owed_by}
 use Rattle.domain_parts.specs.Peers.{announcement_in, peer_in, state_in}
 use Rattle.domain_parts.specs.Records.{Records, opening_records}
-use Rattle.domain_parts.specs.Sound.{AreRising, ArePeers, AreSound, IsSized, buffers_count, out_at, outs_count}
+use Rattle.domain_parts.specs.Sound.{AreRising, ArePeers, AreSound, IsSized, buffers_count, out_at}
 use Rattle.domain_parts.specs.Tied.{linked_among}
 use Rattle.domain_parts.proofs.LinkPlaces.{all-placed, length-rising, map-map, map-placed, placed-contains, placed-linked, placed-rising, placed-same, rising-differ}
 

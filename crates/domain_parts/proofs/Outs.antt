@@ -1,5 +1,5 @@
 -- The buffers that are out of the lane from a peer, as they are taken and given back.
-use Rattle.std.proofs.Common.{◌≡◌, ℕ, ◌+◌, ◌<◌, ◌≤◌, Bool, true, false, List, [], ◌∷◌, ◌++◌, length, refl, sym, ap, ◌∙◌, subst, arith, length-append}
+use Rattle.std.proofs.Common.{◌≡◌, ℕ, ◌+◌, ◌<◌, ◌≤◌, Bool, true, false, List, [], ◌∷◌, ◌++◌, length, refl, sym, ap, ◌∙◌, subst, arith}
 use Rattle.std.specs.Prelude.{Contains, is_some, nat_lt}
 use Rattle.mc_base.specs.declared.request.Slot.{Slot}
 use Rattle.lane_end.specs.Numbers.{often, AreApart}
@@ -13,7 +13,7 @@ use Rattle.domain_parts.specs.InPlaces.{AreInPlaces, AreInPlacesBeside, AreInPla
 use Rattle.domain_parts.specs.Out.{Out, out_of, with_one_back}
 use Rattle.domain_parts.specs.Records.{Records, lent_slots}
 use Rattle.domain_parts.proofs.Books.{often-own}
-use Rattle.domain_parts.proofs.Placed.{in-place, lane-of, stands-of}
+use Rattle.domain_parts.proofs.Placed.{in-place, stands-of}
 
 -- the same slots and book, for other buffers that are out
 beside-out : (number : ℕ) (r : Records) (q : Requests) (b : Book) (o o' : Out) (ns ns' : List ℕ) → o'.size ≡ o.size → AreApart o'.size o'.numbers → ((m : ℕ) → often m ns' + often m o.numbers ≡ often m ns + often m o'.numbers) → AreInPlacesBeside ns number r q b o → AreInPlacesBeside ns' number r q b o'

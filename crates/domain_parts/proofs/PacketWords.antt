@@ -1,5 +1,5 @@
 -- The words of the calls that receive and request packets.
-use Rattle.std.proofs.Common.{◌≡◌, ℕ, Bool, true, false, cond, List, [], length, Option, Some, None, sym, ap, ◌∙◌}
+use Rattle.std.proofs.Common.{◌≡◌, ℕ, Bool, true, false, cond, length, Option, Some, None, sym, ap, ◌∙◌}
 use Rattle.std.specs.Prelude.{Err, Ok, nat_le, ◌==◌}
 use Rattle.mc_base.specs.Limits.{request_limit}
 use Rattle.mc_base.specs.declared.channel.Kind.TheVariants.{Packet}

@@ -1,20 +1,17 @@
 -- Each buffer is in one item, and each item in one place, also after an item came in, was lent or left. What is told of all slots stays in
 -- force for every lane; the numbers change for the lane of the item alone.
-use Rattle.std.proofs.Common.{◌≡◌, ℕ, zero, suc, ◌+◌, ◌<◌, ◌≤◌, Bool, true, false, cond, List, [], ◌∷◌, ◌++◌, length, Option, Some, None, refl, sym, ap, ap₂, ◌∙◌, subst, arith, eq-eqb}
-use Rattle.std.specs.Prelude.{count_by, is_none, is_some, option_and_then, nat_lt, if◌then◌else◌, ◌==◌, ◌&&◌}
-use Rattle.std.proofs.lemmas.Bool.{eqb-true, ltb-false, ltb-true, and_parts, and_right, false_from_ne_true}
-use Rattle.mc_base.specs.Stored.{Stored}
+use Rattle.std.proofs.Common.{◌≡◌, ℕ, zero, suc, ◌+◌, ◌<◌, ◌≤◌, Bool, true, false, List, [], ◌∷◌, ◌++◌, Option, Some, None, refl, sym, ap, ap₂, ◌∙◌, subst, arith, eq-eqb}
+use Rattle.std.specs.Prelude.{count_by, is_some, option_and_then, nat_lt, if◌then◌else◌, ◌==◌, ◌&&◌}
+use Rattle.std.proofs.lemmas.Bool.{eqb-true, ltb-false, ltb-true, and_parts, false_from_ne_true}
 use Rattle.mc_base.specs.declared.request.Slot.{Slot}
 use Rattle.board_model.proofs.ListsCounts.{count-append, count-cons}
-use Rattle.buffer_book.specs.Book.{Book, IsAway, IsFree, IsQueued, Item, Kept, NoneAside, frames_of, if_state, is_state, item_at, kept_at, kept_in_buffer, lent_under, name_at, place_at, queued_at, with_lent, with_queued}
-use Rattle.buffer_book.proofs.ItemLemmas.{item-name, single}
+use Rattle.buffer_book.specs.Book.{Book, IsAway, IsFree, IsQueued, Item, Kept, NoneAside, if_state, is_state, item_at, kept_at, name_at, place_at, queued_at}
+use Rattle.buffer_book.proofs.ItemLemmas.{item-name}
 use Rattle.lane_end.specs.Numbers.{often, AreApart}
-use Rattle.lane_end.proofs.CountLemmas.{often-append}
-use Rattle.domain_parts.specs.InBook.{content_in, frames_at, frames_in, slot_at, whole_at, whole_of}
+use Rattle.domain_parts.specs.InBook.{frames_at, slot_at, whole_at}
 use Rattle.domain_parts.specs.InPlaces.{EachInPlace, IsNamed, IsShort, has_frame, is_of, is_same, one_if, times_in}
 use Rattle.domain_parts.specs.Out.{Out}
-use Rattle.domain_parts.specs.Steps.{without_frames}
-use Rattle.domain_parts.proofs.Books.{Changes, TakesOut, changed-item, differ-back, each-slot, frame-item, frames-none, frames-some, itself, kept-by, lent-changes, often-other, often-own, queued-changes, queued-place, same-item, same-slot, takes-out, whole-kept, whole-none, whole-some}
+use Rattle.domain_parts.proofs.Books.{Changes, differ-back, frame-item, frames-some, itself, kept-by, often-own, same-slot, whole-kept}
 
 -- ---- counts of one
 

@@ -4,18 +4,17 @@ use Rattle.std.specs.Prelude.{count_by, is_some, option_and_then, option_to_list
 use Rattle.std.proofs.lemmas.List.{append-nil}
 use Rattle.board_model.proofs.ListsCounts.{count-append}
 use Rattle.std.proofs.lemmas.Bool.{eqb-true, false_from_ne_true}
-use Rattle.mc_base.specs.Stored.{Stored}
 use Rattle.mc_base.specs.declared.request.Slot.{Slot}
-use Rattle.buffer_book.specs.Book.{Book, IsAway, IsFree, IsQueued, Item, Kept, content, frames_of, if_state, is_state, item_at, kept_at, kept_in_buffer, lent_under, name_at, place_at, queued_at, with_lent, with_queued}
+use Rattle.buffer_book.specs.Book.{Book, IsAway, Item, Kept, content, frames_of, if_state, is_state, item_at, kept_at, lent_under, place_at, queued_at, with_lent, with_queued}
 use Rattle.buffer_book.proofs.ItemLemmas.{single}
-use Rattle.lane_end.specs.Numbers.{often, AreApart}
+use Rattle.lane_end.specs.Numbers.{often}
 use Rattle.lane_end.proofs.CountLemmas.{often-append}
 use Rattle.domain_parts.specs.InBook.{content_in, frames_at, frames_in, slot_at, whole_at, whole_of}
-use Rattle.domain_parts.specs.InPlaces.{EachInPlace, IsNamed, IsShort, has_frame, is_same, one_if, times_in}
+use Rattle.domain_parts.specs.InPlaces.{IsNamed, IsShort, has_frame, is_same, one_if, times_in}
 use Rattle.domain_parts.specs.Out.{Out}
 use Rattle.domain_parts.specs.Steps.{without_frames}
-use Rattle.domain_parts.proofs.Books.{Changes, TakesOut, changed-item, each-slot, frames-none, frames-some, kept-by, lent-changes, often-other, often-own, pieces-same, queued-changes, queued-place, same-item, same-slot, takes-out, whole-none, whole-some}
-use Rattle.domain_parts.proofs.Placed.{HasMore, HaveSame, IsLane, Stands, away-frame, away-free, away-item, away-none, away-nowhere, count-each, count-stays, frame-kept, frame-own, frame-parts, beside_by, frame-true, item-times, not-held, lane-of, more-before, no-frame, none-left, one-there, queued-same, some-item, times-here, times-there, whole-there}
+use Rattle.domain_parts.proofs.Books.{Changes, TakesOut, changed-item, each-slot, frames-none, frames-some, kept-by, lent-changes, often-other, often-own, pieces-same, queued-changes, queued-place, same-slot, takes-out, whole-none, whole-some}
+use Rattle.domain_parts.proofs.Placed.{HasMore, IsLane, Stands, away-frame, away-free, away-none, away-nowhere, count-each, count-stays, frame-kept, frame-own, frame-parts, beside_by, frame-true, item-times, not-held, more-before, no-frame, times-here, times-there, whole-there}
 
 -- ---- a slot is changed, and what stands elsewhere stays
 

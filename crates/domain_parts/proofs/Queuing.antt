@@ -1,6 +1,6 @@
 -- A buffer that is queued or received: the table of endpoints after it, and the places.
 use Rattle.std.proofs.Common.{◌≡◌, ℕ, ◌+◌, ◌-◌, ◌<◌, ◌≤◌, Bool, true, false, List, [], ◌∷◌, ◌++◌, length, map, Option, None, Some, refl, sym, ap, ◌∙◌, subst, arith, take, drop, eq-eqb}
-use Rattle.std.specs.Prelude.{count_by, if◌then◌else◌, is_some, not, option_map, position, slice_get, slice_index, ◌==◌, option_and_then, is_none}
+use Rattle.std.specs.Prelude.{count_by, if◌then◌else◌, not, option_map, position, slice_get, slice_index, ◌==◌}
 use Rattle.std.specs.List.{AllByRecursion}
 use Rattle.std.proofs.lemmas.Bool.{eqb-true}
 use Rattle.std.proofs.lemmas.List.{append-nil, drop-take, get_or-take, length-take, take-take}
@@ -9,7 +9,6 @@ use Rattle.byteorder.specs.Numbers.{little_from-take}
 use Rattle.mc_base.specs.Bytes.{number_at}
 use Rattle.mc_base.specs.Stored.{Stored}
 use Rattle.mc_base.specs.Frame.{source_of}
-use Rattle.mc_base.specs.declared.fate.Fate.{Fate}
 use Rattle.mc_base.specs.declared.name.Local.{Local}
 use Rattle.mc_base.specs.declared.request.PacketId.{PacketId}
 use Rattle.mc_base.specs.declared.request.RequestId.{RequestId}
@@ -18,9 +17,7 @@ use Rattle.board_model.specs.Lists.{changed, changed_at}
 use Rattle.board_model.specs.State as state
 use Rattle.board_model.specs.State.{Item, LentPacket}
 use Rattle.board_model.specs.Choice.{best}
-use Rattle.domain_parts.specs.PlacedFrames.{complete_with, item_of, queued_last}
-use Rattle.board_model.specs.Journal.{taken}
-use Rattle.board_model.specs.Unnamed.{unnamed_item}
+use Rattle.domain_parts.specs.PlacedFrames.{complete_with, queued_last}
 use Rattle.buffer_book.specs.Book.{AllDiffer, Book, IsAway, Kept, content, kept_in_buffer, slot_of, with_queued}
 use Rattle.buffer_book.proofs.ItemLemmas.{single}
 use Rattle.message_queue.specs.Queue.{Waiting, waiting}
@@ -42,7 +39,7 @@ use Rattle.domain_parts.proofs.Books.{Others}
 use Rattle.domain_parts.proofs.Placed.{HasMore, IsLane, Stands, away-lent, away-none, in-place, lane-of, stands-of}
 use Rattle.domain_parts.proofs.Placing.{in-changes, in-others, in-stands, in-whole, lane-away, lane-in, lane-same}
 use Rattle.domain_parts.proofs.Receives.{complete-at, complete_now, each-complete, handed-more, ids-stay, keys-stay, length-stays, map-changed}
-use Rattle.domain_parts.proofs.Slots.{handed-has, length-more, misplaced-stay, slots, times-all, waiting-has}
+use Rattle.domain_parts.proofs.Slots.{handed-has, misplaced-stay, slots, times-all, waiting-has}
 use Rattle.domain_parts.proofs.Waits.{endpoints-more, endpoints-stay, waiting-less, waiting-more}
 
 -- ---- what a frame says lies in its buffer

@@ -4,10 +4,10 @@ use Rattle.domain_parts.proofs.Books.{Changes, Others, same-slot, without-lends,
 use Rattle.board_model.proofs.MessageLists.{some-position}
 use Rattle.domain_parts.specs.DomainView.{has_packet_id, place_of_packet_id}
 use Rattle.std.proofs.lemmas.Bool.{and_parts, and_from, eqb-true}
-use Rattle.std.proofs.Common.{◌≡◌, ℕ, zero, suc, ◌+◌, ◌<◌, Bool, true, false, cond, List, [], ◌∷◌, ◌++◌, length, map, Option, Some, None, refl, sym, ap, ◌∙◌, subst, arith, ◌≤◌, drop, eq-eqb}
-use Rattle.std.specs.Prelude.{count_by, is_some, not, option_and_then, option_map, slice_get, Contains, ◌==◌, find, is_none, if◌then◌else◌, ◌&&◌}
+use Rattle.std.proofs.Common.{◌≡◌, ℕ, zero, suc, ◌+◌, ◌<◌, Bool, true, false, cond, List, [], ◌∷◌, map, Option, Some, None, refl, sym, ap, ◌∙◌, subst, arith, eq-eqb}
+use Rattle.std.specs.Prelude.{count_by, is_some, not, option_and_then, option_map, slice_get, ◌==◌, find, ◌&&◌}
 use Rattle.std.specs.List.{AllByRecursion}
-use Rattle.std.proofs.lemmas.List.{append-nil, length-map, length-take}
+use Rattle.std.proofs.lemmas.List.{append-nil}
 use Rattle.std.proofs.lemmas.Option.{slice_get-map}
 use Rattle.mc_base.specs.declared.refusal.Refusal.TheVariants.{BufInvalid}
 use Rattle.mc_base.specs.declared.request.PacketId.{PacketId}
@@ -22,21 +22,15 @@ use Rattle.board_model.specs.State.{DomainState, LentPacket, packet_at_place}
 use Rattle.board_model.proofs.ListsCounts.{count-cons, position-tells}
 use Rattle.board_model.proofs.MessageAlls.{all-without}
 use Rattle.buffer_book.specs.Book.{Book, Item, frames_of, if_state, is_state, item_at, queued_at, slot_of}
-use Rattle.message_queue.specs.Queue.{Waiting}
 use Rattle.request_set.specs.Requests.{Requests}
-use Rattle.domain_parts.specs.LaneSeen.{LaneSeen}
-use Rattle.domain_parts.specs.declared.peer.Peer.{Peer}
-use Rattle.domain_parts.specs.AllMoved.{moves_at, numbers_of}
+use Rattle.domain_parts.specs.AllMoved.{moves_at}
 use Rattle.domain_parts.specs.CallSteps.{Means, call_steps, if_some}
 use Rattle.domain_parts.specs.GivingBack.{AreOutAt, GivesBack}
-use Rattle.domain_parts.specs.InBook.{endpoints_in, frames_at, numbered_at, packet_in, packets_in, requests_in}
-use Rattle.domain_parts.specs.InPlaces.{AreInPlaces, IsLentAs, is_misplaced, is_same, lent_item, one_if, slots_of, times_in, times_waiting}
+use Rattle.domain_parts.specs.InBook.{frames_at, packet_in}
+use Rattle.domain_parts.specs.InPlaces.{IsLentAs, is_misplaced, is_same, lent_item, one_if, slots_of, times_in, times_waiting}
 use Rattle.domain_parts.specs.InRequests.{handed_slots}
-use Rattle.domain_parts.specs.Out.{Out}
 use Rattle.domain_parts.specs.Parts.{Parts, Sound, plain, state_of}
-use Rattle.domain_parts.specs.Peers.{peers_in}
 use Rattle.domain_parts.specs.Records.{Records, all_waiting, lent_slots, without_lent_at}
-use Rattle.domain_parts.specs.Sound.{out_at}
 use Rattle.domain_parts.specs.Steps.{Step, all_moves, done, done_all, packet_released, without_frames}
 use Rattle.domain_parts.proofs.Ending.{ids_in}
 use Rattle.domain_parts.proofs.GivingLemmas.{All-at, all-stand, given-peers, gives-out, some-lane, sound-gave}

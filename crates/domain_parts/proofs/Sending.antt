@@ -1,5 +1,5 @@
 -- What the parts keep of the peers, and the state after a frame is put to one of them.
-use Rattle.std.proofs.Common.{◌≡◌, ℕ, ◌+◌, ◌-◌, ◌≤◌, List, [], ◌∷◌, length, map, Option, Some, refl, sym, ap, ◌∙◌, subst}
+use Rattle.std.proofs.Common.{◌≡◌, ℕ, ◌+◌, ◌-◌, ◌≤◌, List, [], ◌∷◌, map, Option, Some, refl, sym, ap, ◌∙◌, subst}
 use Rattle.std.specs.Prelude.{Contains, position, slice_get, slice_set, ◌==◌}
 use Rattle.std.specs.List.{AllByRecursion}
 use Rattle.board_model.specs.Lists.{changed}
@@ -16,7 +16,7 @@ use Rattle.domain_parts.specs.InPlaces.{AreInPlaces}
 use Rattle.domain_parts.specs.Out.{out_of}
 use Rattle.domain_parts.specs.Peers.{peer_in, state_in}
 use Rattle.domain_parts.specs.Records.{Records}
-use Rattle.domain_parts.specs.Sound.{AreRising, AreSound, IsSized, buffers_count, outs_count}
+use Rattle.domain_parts.specs.Sound.{AreRising, AreSound, IsSized, buffers_count}
 use Rattle.domain_parts.specs.Tied.{AreTied}
 use Rattle.domain_parts.proofs.PeerPlaces.{All-from, All-map, All-unmap, changed-map, place-in}
 

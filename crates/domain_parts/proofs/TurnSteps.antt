@@ -2,7 +2,6 @@
 use Rattle.std.proofs.Common.{◌≡◌, ℕ, zero, suc, ◌+◌, ◌<◌, ◌≤◌, Bool, true, false, cond, List, [], ◌∷◌, ◌++◌, length, map, take, Some, refl, sym, ap, ◌∙◌, subst, arith, eq-eqb, Option}
 use Rattle.std.specs.Prelude.{Contains, is_some, option_map, slice_get, nat_lt, ◌==◌}
 use Rattle.std.specs.List.{AllByRecursion}
-use Rattle.std.proofs.lemmas.List.{length-append}
 use Rattle.mc_base.specs.NameMap.{Names}
 use Rattle.mc_base.specs.Stored.{Stored}
 use Rattle.mc_base.specs.declared.name.EndName.{EndName}
@@ -32,14 +31,14 @@ use Rattle.domain_parts.specs.declared.peer.Peer.{Peer}
 use Rattle.domain_parts.specs.declared.requests.Waiters.TheVariants as waiters
 use Rattle.domain_parts.specs.AllMoved.{numbers_of}
 use Rattle.domain_parts.specs.InBook.{priority_of}
-use Rattle.domain_parts.specs.InPlaces.{AreInPlaces, AreInPlacesBut, KeepOthers, slot_at, slots_of}
-use Rattle.domain_parts.specs.InRequests.{AreReceives, MayEnd, handed_slots, with_all_complete}
+use Rattle.domain_parts.specs.InPlaces.{AreInPlaces, AreInPlacesBut, KeepOthers, slot_at}
+use Rattle.domain_parts.specs.InRequests.{AreReceives, MayEnd, with_all_complete}
 use Rattle.domain_parts.specs.LaneMoves.{LaneMove, receiver, sender}
 use Rattle.domain_parts.specs.LaneSeen.{LaneSeen, after_move, after_moves}
 use Rattle.domain_parts.specs.Out.{Out, out_of}
 use Rattle.domain_parts.specs.Parts.{Parts, Sound, plain}
 use Rattle.domain_parts.specs.Records.{Records, all_waiting, with_channel_at, with_channel_given, with_end, with_waiting, with_waiting_at}
-use Rattle.domain_parts.specs.Sound.{ArePeers, AreRising, IsSized, buffers_count, out_at, outs_count}
+use Rattle.domain_parts.specs.Sound.{ArePeers, AreRising, IsSized, buffers_count, out_at}
 use Rattle.domain_parts.specs.Steps.{at_peer, changed_peer, channel_given, channel_set, connect_settled, done, frame_handed, frame_queued, frame_returned, looked_ahead, looked_back, moved_peer, name_told, names_told, owed_put, receives_ended, reply_owed, reply_put, with_names, with_reply, with_reply_put}
 use Rattle.domain_parts.specs.Tied.{AreTied, live_record}
 use Rattle.domain_parts.proofs.Books.{queued-shelves}
@@ -49,7 +48,7 @@ use Rattle.domain_parts.proofs.GivingLemmas.{All-at, SameEndpoints, same-endpoin
 use Rattle.domain_parts.proofs.Outs.{taken-places}
 use Rattle.domain_parts.proofs.PaidTables.{paid-is, tied-told}
 use Rattle.domain_parts.proofs.PeerPlaces.{All-from, set-same}
-use Rattle.domain_parts.proofs.PeersAt.{all-set, outs-set}
+use Rattle.domain_parts.proofs.PeersAt.{all-set}
 use Rattle.domain_parts.proofs.Queuing.{handed-others, handed-places, handed-receives, queued-others, queued-places, same-held}
 use Rattle.domain_parts.proofs.Sending.{Outline, outline, same-sound}
 use Rattle.domain_parts.proofs.Stepping.{moved-numbers, quiet-peers, set-is-map}

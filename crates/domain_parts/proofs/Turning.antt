@@ -14,8 +14,7 @@ use Rattle.domain_parts.specs.declared.peer.Peer.{Peer}
 use Rattle.domain_parts.specs.AllMoved.{AllMoved, ends_of, numbers_of}
 use Rattle.domain_parts.specs.CallSteps.{Rests}
 use Rattle.domain_parts.specs.Doing.{Doing, ids_in}
-use Rattle.domain_parts.specs.InPlaces.{AreInPlaces}
-use Rattle.domain_parts.specs.Sound.{AreRising, out_at}
+use Rattle.domain_parts.specs.Sound.{AreRising}
 use Rattle.domain_parts.specs.LaneMoves.{LaneMove, sender}
 use Rattle.domain_parts.specs.LaneSeen.{LaneSeen, after_move, after_moves}
 use Rattle.domain_parts.specs.Parts.{Holding, Parts, Sound, holding_in, nobody, parts_in, peer_at, peer_seen, peers_seen, plain, state_of}
@@ -25,7 +24,7 @@ use Rattle.domain_parts.specs.InRequests.{handed_slots}
 use Rattle.domain_parts.proofs.CountsFrom as counts
 use Rattle.domain_parts.proofs.CountsFrom.{count-both, lent-is, queued-is}
 use Rattle.domain_parts.proofs.Slots.{slots}
-use Rattle.domain_parts.proofs.PeerPlaces.{All-at, All-from}
+use Rattle.domain_parts.proofs.PeerPlaces.{All-from}
 use Rattle.domain_parts.proofs.Stepping.{did-then, done-numbers, moves-append, one-moved, one-seen}
 use Rattle.domain_parts.proofs.Tables.{slice_get-read}
 use Rattle.board_model.proofs.DeedJoins.{after-join}

@@ -1,22 +1,19 @@
 -- The state but for the names of frames: what a domain may do is the same there, and so is what it counts.
-use Rattle.std.proofs.Common.{◌≡◌, ℕ, Bool, true, false, cond, List, [], ◌∷◌, map, Option, Some, None, refl, ap, ap₂, ◌∙◌, subst}
-use Rattle.std.specs.Prelude.{filter, option_map, ◌==◌}
-use Rattle.std.specs.List.{flat_map}
-use Rattle.mc_base.specs.declared.request.Slot.{Slot}
+use Rattle.std.proofs.Common.{◌≡◌, ℕ, List, Option, Some, None, refl, ap, ap₂, ◌∙◌, subst}
+use Rattle.std.specs.Prelude.{option_map}
 use Rattle.board_model.specs.Answer.{unless_refused}
 use Rattle.board_model.specs.CallChanges.{call_changes, effect}
 use Rattle.board_model.specs.Change.{changed_all}
-use Rattle.board_model.specs.Deeds.{calls, after_deeds, AllMayDo}
+use Rattle.board_model.specs.Deeds.{after_deeds, AllMayDo}
 use Rattle.board_model.specs.DomainCall.{DomainCall, cancel_of, test_of, wait_for}
 use Rattle.board_model.specs.Journal.{Visit}
-use Rattle.board_model.specs.State.{DomainState, Item, LentPacket, frames_from, is_from, packet_at_place}
+use Rattle.board_model.specs.State.{DomainState, LentPacket, packet_at_place}
 use Rattle.board_model.specs.Turn.{nameless, visit_deeds}
-use Rattle.board_model.specs.Unnamed.{no_names, unnamed, unnamed_item, unnamed_packet}
+use Rattle.board_model.specs.Unnamed.{no_names, unnamed, unnamed_packet}
 use Rattle.board_model.proofs.ListsMapped.{option-map-map}
 use Rattle.board_model.proofs.RenamedCalls.{call-renamed, first-renamed, packet-renamed, refusal-renamed}
 use Rattle.board_model.proofs.RenamedChanges.{renamed-all}
 use Rattle.board_model.proofs.UnnamedDeeds.{all-unnamed, deeds-unnamed, visit-unnamed}
-use Rattle.buffer_book.specs.Book.{Book}
 use Rattle.domain_parts.specs.Calls.{brings_whole, gives_whole, place_ended, place_released, success_ends, success_releases}
 use Rattle.domain_parts.specs.NumberedDeeds.{number_in, numbered_deeds}
 

@@ -10,7 +10,6 @@ use Rattle.board_model.specs.State.{DomainState}
 use Rattle.board_model.specs.Turn.{IsVisit, AreVisits, after_visit, after_turn}
 use Rattle.board_model.specs.Unnamed.{unnamed}
 use Rattle.board_model.proofs.DeedJoins.{after-join}
-use Rattle.buffer_book.specs.Book.{Book}
 use Rattle.domain_parts.specs.AllMoved.{AllMoved, numbers_of, turn_moves}
 use Rattle.domain_parts.specs.Beginning.{told_of, told_of_all, has_begun, has_begun_after}
 use Rattle.domain_parts.specs.CallSteps.{Rests}

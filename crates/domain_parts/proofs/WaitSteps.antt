@@ -3,7 +3,7 @@ use Rattle.std.proofs.Common.{◌≡◌, ℕ, ◌+◌, Bool, true, false, List, 
 use Rattle.std.specs.List.{list_all}
 use Rattle.std.proofs.lemmas.List.{map-append}
 use Rattle.mc_base.specs.declared.request.RequestId.{RequestId}
-use Rattle.board_model.specs.Answer.{answer, answer_by, first_complete, is_complete_at, place_said, refusal, result_of, stands_at, success}
+use Rattle.board_model.specs.Answer.{answer_by, first_complete, is_complete_at, place_said, refusal, result_of, stands_at, success}
 use Rattle.board_model.specs.DomainCall.{test_of, wait_for}
 use Rattle.board_model.specs.Journal.{Line, PlainEntry, PlainResult, Visit, completes, noted, noted_all, turned}
 use Rattle.board_model.specs.State.{DomainState, request_at_place}

@@ -11,7 +11,7 @@ use Rattle.mc_base.specs.declared.request.Slot.{Slot}
 use Rattle.board_model.specs.State as state
 use Rattle.board_model.specs.State.{LentPacket, frames_from}
 use Rattle.buffer_book.specs.Book.{Book, Item, Kept, content, frames_of, item_at, kept_at, slot_of}
-use Rattle.message_queue.specs.Queue.{Waiting, waiting}
+use Rattle.message_queue.specs.Queue.{Waiting}
 use Rattle.packet_channel.specs.End.{end_of}
 use Rattle.request_set.specs.declared.ask.Ask.{Ask}
 use Rattle.request_set.specs.declared.ask.Ask.TheVariants as ask

@@ -1,6 +1,6 @@
-use Rattle.std.proofs.Common.{◌≡◌, ◌+◌, ◌≤◌, ℕ, length, take, ap, arith, length-append}
+use Rattle.std.proofs.Common.{◌+◌, ◌≤◌, length, take, ap, arith, length-append}
 use Rattle.domain_parts.specs.InBook.{frames_at}
-use Rattle.domain_parts.proofs.Copying.{Copied, content-next, content-within, contents_of_frames, copied-next}
+use Rattle.domain_parts.proofs.Copying.{content-next, content-within, contents_of_frames, copied-next}
 use Rattle.domain_parts.proofs.messages.give.Goals as goal
 
 pub overflow_add-size : goal.overflow_add-size

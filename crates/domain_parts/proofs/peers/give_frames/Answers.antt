@@ -1,4 +1,4 @@
-use Rattle.std.proofs.Common.{◌≡◌, ◌∙◌, ◌<◌, ℕ, List, Option, None, Some, ap, arith, length, refl, subst, sym, true}
+use Rattle.std.proofs.Common.{◌≡◌, ◌∙◌, ℕ, List, Option, None, Some, ap, arith, refl, subst, sym, true}
 use Rattle.std.specs.Prelude.{IsNone, IsSome, is_some, option_map}
 use Rattle.mc_base.specs.Stored.{Stored}
 use Rattle.buffer_book.specs.Book.{Item}

@@ -1,4 +1,4 @@
-use Rattle.std.proofs.Common.{◌≡◌, ◌∙◌, ◌<◌, ℕ, List, [], Option, None, Some, ap, arith, length, refl, subst, sym, true}
+use Rattle.std.proofs.Common.{◌≡◌, ◌∙◌, ℕ, List, [], Option, None, Some, ap, arith, length, refl, subst, true}
 use Rattle.std.specs.Prelude.{IfOk, IsErr, IsNone, OnOk, Ok, Err, Result, is_ok, is_some, option_map}
 use Rattle.buffer_book.specs.Book.{Book, Item, NoneAside, count_of, lent_as, slot_of, with_taken}
 use Rattle.buffer_book.proofs.NoneAside.{lent-plain}

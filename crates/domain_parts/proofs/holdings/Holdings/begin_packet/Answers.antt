@@ -1,4 +1,4 @@
-use Rattle.std.proofs.Common.{◌≡◌, ◌∙◌, None, sym, refl, rules, subst}
+use Rattle.std.proofs.Common.{◌≡◌, ◌∙◌, sym, refl, rules, subst}
 use Rattle.std.specs.Prelude.{Err}
 use Rattle.board_model.specs.DomainCall.{packet_request_at}
 use Rattle.packet_channel.specs.End.{end_of}

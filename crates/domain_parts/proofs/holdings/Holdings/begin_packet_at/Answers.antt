@@ -1,4 +1,4 @@
-use Rattle.std.proofs.Common.{◌≡◌, ◌<◌, ◌∙◌, ◌∷◌, [], ap, sym, refl, subst, length, List, Option, Some, None, true, false}
+use Rattle.std.proofs.Common.{◌≡◌, ◌<◌, ◌∙◌, ◌∷◌, [], ap, sym, refl, subst, length, List, Some, None, true, false}
 use Rattle.std.specs.Prelude.{option_map, slice_get}
 use Rattle.board_model.specs.Choice.{oldest}
 use Rattle.board_model.specs.DomainCall.{packet_request_at}

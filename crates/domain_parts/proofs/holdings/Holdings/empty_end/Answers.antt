@@ -1,7 +1,6 @@
-use Rattle.std.proofs.Common.{◌∷◌, [], List, ap, refl, sym, subst}
+use Rattle.std.proofs.Common.{◌∷◌, [], refl, sym, subst}
 use Rattle.mc_base.specs.declared.channel.Side.{Side}
 use Rattle.mc_base.specs.declared.refusal.Refusal.TheVariants.{ChanClosed}
-use Rattle.mc_base.specs.declared.request.Slot.{Slot}
 use Rattle.domain_parts.specs.CallSteps.{Empties, drops}
 use Rattle.domain_parts.specs.Parts.{Parts}
 use Rattle.domain_parts.specs.Records.{slots_at}

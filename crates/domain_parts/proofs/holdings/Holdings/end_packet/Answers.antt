@@ -1,8 +1,6 @@
-use Rattle.std.proofs.Common.{◌≡◌, ◌∙◌, ◌∷◌, [], ℕ, List, Option, Some, None, ap, sym, refl, subst}
-use Rattle.std.specs.Prelude.{slice_get}
+use Rattle.std.proofs.Common.{◌∙◌, ℕ, List, Option, Some, None, sym, refl, subst}
 use Rattle.std.specs.Vec.{with_items}
 use Rattle.std.proofs.lemmas.List.{with_items_is}
-use Rattle.mc_base.specs.declared.request.PacketId.{PacketId}
 use Rattle.board_model.specs.DomainCall.{release_of}
 use Rattle.board_model.specs.Journal.{agrees}
 use Rattle.buffer_book.specs.Book.{slot_of}

@@ -6,7 +6,7 @@ use Rattle.mc_base.specs.declared.request.PacketId.{PacketId}
 use Rattle.domain_parts.proofs.LendingMeaning.{tested-room, packet-answer, packet-means, packet_ended-keeps}
 use Rattle.request_set.specs.declared.ask.Complete.{Complete}
 use Rattle.std.proofs.Common.{arith, rules, ◌≡◌, ◌≤◌, ◌∙◌, Bool, true, false, ◌∷◌, [], ℕ, List, length, take, ap, sym, refl, subst, Some, None, Option, ◌<◌}
-use Rattle.std.specs.Prelude.{Err, Ok, min, nat_le}
+use Rattle.std.specs.Prelude.{Err, min, nat_le}
 use Rattle.std.proofs.lemmas.Bool.{leb-true, leb-false}
 use Rattle.std.proofs.lemmas.List.{take_all}
 use Rattle.std.specs.Vec.{with_items}

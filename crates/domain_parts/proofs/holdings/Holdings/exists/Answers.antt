@@ -1,5 +1,4 @@
 use Rattle.std.proofs.Common.{◌≡◌, ◌∙◌, sym, refl, subst, Option, is_some, ap}
-use Rattle.std.specs.Prelude.{option_map}
 use Rattle.board_model.specs.Answer.{stands_at}
 use Rattle.board_model.specs.Unnamed.{no_names}
 use Rattle.request_set.specs.Requests.{Standing, request_of}

@@ -1,10 +1,9 @@
-use Rattle.std.proofs.Common.{◌≡◌, ◌∙◌, ◌<◌, ◌≤◌, ℕ, List, Option, Some, None, ap, arith, length, take, sym, subst}
+use Rattle.std.proofs.Common.{◌≡◌, ◌∙◌, ◌<◌, ℕ, List, Option, Some, ap, arith, length, take, sym, subst}
 use Rattle.std.specs.Prelude.{option_map}
 use Rattle.mc_base.specs.declared.request.Got.{Got}
 use Rattle.mc_base.specs.declared.request.Slot.{Slot}
 use Rattle.board_model.specs.Choice.{oldest}
 use Rattle.board_model.specs.State.{Item, place_at, queue_at}
-use Rattle.buffer_book.specs.Book.{queued_at}
 use Rattle.domain_parts.specs.Parts.{Holding, Parts, parts_in, plain, state_of}
 use Rattle.domain_parts.specs.Records.{slots_at}
 use Rattle.domain_parts.specs.declared.holdings.Holdings.TheInside.{Inside}

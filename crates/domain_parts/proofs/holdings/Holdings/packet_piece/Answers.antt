@@ -1,12 +1,12 @@
-use Rattle.std.proofs.Common.{◌≡◌, ◌≤◌, ◌<◌, ◌∙◌, ℕ, suc, true, false, List, Option, Some, None, ap, length, sym, refl, subst}
+use Rattle.std.proofs.Common.{◌≡◌, ◌<◌, ◌∙◌, ℕ, true, false, List, Option, Some, None, ap, length, sym, refl, subst}
 use Rattle.std.specs.Prelude.{IfSome, IsNone, option_and_then, option_map, slice_get}
 use Rattle.board_model.specs.State.{LentPacket, packet_at_place}
 use Rattle.buffer_book.specs.Book.{Item, Kept, content, count_of, frame_at, lent_as}
 use Rattle.domain_parts.specs.declared.holdings.Holdings.TheInside.{Inside}
-use Rattle.domain_parts.specs.DomainView.{content_by, packet_lent_as, pieces_lent_as, place_of_packet_id}
+use Rattle.domain_parts.specs.DomainView.{packet_lent_as, pieces_lent_as, place_of_packet_id}
 use Rattle.domain_parts.specs.Parts.{Holding, Parts, parts_in, shown, state_of}
 use Rattle.domain_parts.proofs.Unnaming.{lent-content, none-lent}
-use Rattle.domain_parts.proofs.LentPieces.{content-are, content_now, none-there, piece-is, pieces-are, pieces-many, pieces_now, short-is}
+use Rattle.domain_parts.proofs.LentPieces.{content-are, content_now, none-there, piece-is, pieces-are, pieces-many, pieces_now}
 use Rattle.domain_parts.proofs.holdings.Holdings.packet_piece.Given.{Over}
 use Rattle.domain_parts.proofs.holdings.Holdings.packet_piece.Goals as goal
 

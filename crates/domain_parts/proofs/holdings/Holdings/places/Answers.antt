@@ -1,18 +1,17 @@
 use Rattle.std.proofs.Common.{◌≡◌, ◌∙◌, ◌+◌, ◌≤◌, ap, sym, refl, subst, arith, map, ℕ, List, Option, Some, None, true, false, is_some}
-use Rattle.std.specs.Prelude.{Contains, IsNone, count_by, position, ◌==◌}
+use Rattle.std.specs.Prelude.{Contains, IsNone, position, ◌==◌}
 use Rattle.board_model.specs.State.{lent_from, queued_from}
 use Rattle.domain_parts.specs.Parts.{state_of}
 use Rattle.domain_parts.proofs.Stepping.{sound-unseen, state-seen}
 use Rattle.domain_parts.specs.InBook.{frames_count}
 use Rattle.domain_parts.specs.InRequests.{handed_slots}
 use Rattle.domain_parts.specs.LaneSeen.{LaneSeen}
-use Rattle.domain_parts.specs.Records.{all_waiting, lent_slots}
+use Rattle.domain_parts.specs.Records.{lent_slots}
 use Rattle.domain_parts.specs.Sound.{AreSound}
 use Rattle.domain_parts.specs.declared.holdings.Holdings.TheInside.{Inside}
 use Rattle.domain_parts.proofs.CountsFrom as counts
 use Rattle.domain_parts.proofs.CountsFrom.{handed-queued, held-few, lent-is, queue-from, queued-is}
 use Rattle.domain_parts.proofs.PeerPlaces.{contained-found, found-contained, number-place, numbers-in}
-use Rattle.domain_parts.proofs.Slots.{slots}
 use Rattle.domain_parts.proofs.holdings.Holdings.places.Given.{Over}
 use Rattle.board_model.proofs.UnnamedCounts.{lent-unnamed, queued-unnamed}
 use Rattle.domain_parts.proofs.holdings.Holdings.places.Goals as goal

@@ -1,10 +1,8 @@
-use Rattle.std.proofs.Common.{◌≡◌, ◌<◌, ◌∙◌, ◌++◌, ◌∷◌, [], ℕ, Bool, true, false, List, Option, Some, None, ap, arith, length, sym, refl, rules, subst}
+use Rattle.std.proofs.Common.{◌≡◌, ◌<◌, ◌∙◌, ◌∷◌, [], ℕ, false, List, Some, None, ap, arith, sym, refl, rules, subst}
 use Rattle.std.specs.Prelude.{Err, option_map, slice_get, ◌==◌}
 use Rattle.mc_base.specs.declared.request.PacketId.{PacketId}
-use Rattle.mc_base.specs.declared.request.Slot.{Slot}
 use Rattle.board_model.specs.Choice.{oldest}
-use Rattle.board_model.specs.DomainCall.{DomainCall, lend_at}
-use Rattle.board_model.specs.State.{place_at, queue_at}
+use Rattle.board_model.specs.DomainCall.{lend_at}
 use Rattle.message_queue.specs.Queue.{Waiting}
 use Rattle.packet_channel.specs.End.{end_of}
 use Rattle.domain_parts.specs.Calls.{gives_whole, lent}

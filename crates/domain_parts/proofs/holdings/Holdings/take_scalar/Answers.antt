@@ -1,8 +1,6 @@
-use Rattle.std.proofs.Common.{◌≡◌, ◌∙◌, ℕ, List, Option, None, ap, arith, sym, refl, subst, rules, take}
+use Rattle.std.proofs.Common.{◌≡◌, ◌∙◌, List, None, ap, arith, sym, refl, subst, rules, take}
 use Rattle.board_model.specs.Choice.{oldest}
-use Rattle.std.specs.Borrow.{Bor}
-use Rattle.std.specs.Prelude.{Err, option_map}
-use Rattle.mc_base.specs.declared.refusal.Refusal.TheVariants.{Empty, SclSize}
+use Rattle.std.specs.Prelude.{Err}
 use Rattle.board_model.specs.DomainCall.{scalar_at}
 use Rattle.board_model.specs.Journal.{tells}
 use Rattle.board_model.specs.State.{queue_at}
@@ -12,8 +10,7 @@ use Rattle.domain_parts.specs.CallSteps.{Acts}
 use Rattle.domain_parts.specs.Parts.{state_of}
 use Rattle.domain_parts.specs.Records.{slots_at}
 use Rattle.domain_parts.specs.Steps.{Did, Step}
-use Rattle.domain_parts.proofs.DataMeaning.{front-value, front-whole, scalar-differs, scalar-done, scalar-empty, scalar-fits, scalar-means, scalar-other, scalar-refused, scalar-steps}
-use Rattle.domain_parts.proofs.Readings.{none-from}
+use Rattle.domain_parts.proofs.DataMeaning.{front-value, front-whole, scalar-done, scalar-fits, scalar-means, scalar-refused, scalar-steps}
 use Rattle.domain_parts.proofs.Steps.{first-there}
 use Rattle.domain_parts.proofs.Stepping.{acts-done, acts-refused}
 use Rattle.domain_parts.proofs.holdings.Holdings.take_scalar.Goals as goal

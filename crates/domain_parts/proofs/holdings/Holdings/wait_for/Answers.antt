@@ -1,6 +1,5 @@
 use Rattle.std.proofs.Common.{◌∙◌, sym, subst}
 use Rattle.std.specs.Prelude.{Ok}
-use Rattle.domain_parts.specs.Awaiting.{all_exist}
 use Rattle.domain_parts.specs.Calls.{LendsLast, result_of_done}
 use Rattle.domain_parts.specs.DomainView.{packet_lent_as}
 use Rattle.domain_parts.specs.Parts.{shown}
