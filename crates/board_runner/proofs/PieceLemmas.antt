@@ -1,7 +1,8 @@
 -- The pieces of a packet, gathered one after the other.
-use Rattle.std.proofs.Common.{◌≡◌, ℕ, suc, zero, ◌+◌, ◌<◌, ◌≤◌, List, [], ◌∷◌, ◌++◌, length, take, flat_map, slice_get, Option, Some, None, option_map, option_and_then, refl, sym, ap, ◌∙◌, subst, arith, append-nil, append_assoc, length-append}
+use Rattle.std.proofs.Common.{◌≡◌, ℕ, suc, zero, ◌+◌, ◌≤◌, List, [], ◌∷◌, ◌++◌, length, take, flat_map, slice_get, Option, Some, None, option_map, option_and_then, refl, sym, ap, ◌∙◌, subst, arith, append-nil, append_assoc, length-append}
 use Rattle.std.specs.Prelude.{IfSome}
 use Rattle.std.proofs.lemmas.List.{take_all}
+use Rattle.board_model.specs.State.{LentPacket}
 use Rattle.domain_core.specs.DomainView.{content_by}
 
 abbrev joined : List (List ℕ) → List ℕ
@@ -25,11 +26,16 @@ pub gathered-none : (out : List ℕ) (pieces : Option (List (List ℕ))) → Gat
 gathered-none out None = tt
 gathered-none out (Some ps) = (refl, refl)
 
+-- together they have no more bytes than the packet
+pieces_few : (limit : ℕ) (ps : List (List ℕ)) (lent : Option LentPacket) → Some (joined ps) ≡ option_map (λ p. p.item.content) lent → IfSome lent (λ p. length p.item.content ≤ limit) → length (joined ps) ≤ limit
+pieces_few limit ps None whole short = absurd cc
+pieces_few limit ps (Some p) whole short = let same : joined ps ≡ p.item.content = cc in subst (λ bytes. length bytes ≤ limit) (sym same) short
+
 -- the next piece has room where the content has
-pub gathered-fits : (limit n size : ℕ) (out b : List ℕ) (pieces : Option (List (List ℕ))) (content : Option (List ℕ)) → Gathered n size out pieces → content_by pieces ≡ content → IfSome content (λ bytes. length bytes ≤ limit) → Some b ≡ option_and_then (λ ps. slice_get ps n) pieces → size + length b ≤ limit
-gathered-fits limit n size out b None content h whole short is = absurd cc
-gathered-fits limit n size out b (Some ps) content h whole short is =
-    let few : length (joined ps) ≤ limit = subst (λ c. IfSome c (λ bytes. length bytes ≤ limit)) (sym whole) short in
+pub gathered-fits : (limit n size : ℕ) (out b : List ℕ) (pieces : Option (List (List ℕ))) (lent : Option LentPacket) → Gathered n size out pieces → content_by pieces ≡ option_map (λ p. p.item.content) lent → IfSome lent (λ p. length p.item.content ≤ limit) → Some b ≡ option_and_then (λ ps. slice_get ps n) pieces → size + length b ≤ limit
+gathered-fits limit n size out b None lent h whole short is = absurd cc
+gathered-fits limit n size out b (Some ps) lent h whole short is =
+    let few = pieces_few limit ps lent whole short in
     omega (arith, h.1, next_fits ps n b (sym is), few)
 
 pub gathered-next : (n size size' : ℕ) (out out' b : List ℕ) (pieces : Option (List (List ℕ))) → Gathered n size out pieces → Some b ≡ option_and_then (λ ps. slice_get ps n) pieces → size' ≡ size + length b → take size' out' ≡ take size out ++ b → Gathered (n + 1) size' out' pieces
@@ -47,9 +53,9 @@ gathered-all k n size out (Some ps) content h count all whole =
     let many : k ≡ length ps = cc in
     ap (λ bs. Some bs) (h.0 ∙ ap joined (take_all n ps (omega (arith, many, all)))) ∙ whole
 
-pub gathered-few : (limit k n size : ℕ) (out : List ℕ) (pieces : Option (List (List ℕ))) (content : Option (List ℕ)) → Gathered n size out pieces → Some k ≡ option_map length pieces → k ≤ n → content_by pieces ≡ content → IfSome content (λ bytes. length bytes ≤ limit) → size ≤ limit
-gathered-few limit k n size out None content h count all whole short = absurd cc
-gathered-few limit k n size out (Some ps) content h count all whole short =
+pub gathered-few : (limit k n size : ℕ) (out : List ℕ) (pieces : Option (List (List ℕ))) (lent : Option LentPacket) → Gathered n size out pieces → Some k ≡ option_map length pieces → k ≤ n → content_by pieces ≡ option_map (λ p. p.item.content) lent → IfSome lent (λ p. length p.item.content ≤ limit) → size ≤ limit
+gathered-few limit k n size out None lent h count all whole short = absurd cc
+gathered-few limit k n size out (Some ps) lent h count all whole short =
     let many : k ≡ length ps = cc in
-    let few : length (joined ps) ≤ limit = subst (λ c. IfSome c (λ bytes. length bytes ≤ limit)) (sym whole) short in
+    let few = pieces_few limit ps lent whole short in
     omega (arith, h.1, few, ap (λ qs. length (joined qs)) (take_all n ps (omega (arith, many, all))))

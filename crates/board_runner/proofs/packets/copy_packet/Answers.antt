@@ -1,4 +1,4 @@
-use Rattle.std.proofs.Common.{arith, length, ◌≤◌}
+use Rattle.std.proofs.Common.{arith}
 use Rattle.board_runner.proofs.PieceLemmas.{gathered-all, gathered-few, gathered-fits, gathered-next, gathered-none}
 use Rattle.board_runner.proofs.packets.copy_packet.Goals as goal
 
