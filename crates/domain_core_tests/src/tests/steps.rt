@@ -284,17 +284,23 @@ fn packet(buffer: u16, serial: u64) -> PacketId {
 
 /// What is lent with an id. Answers `None` where the packet has another byte.
 fn lent<S: SendEnd, R: RecvEnd>(domain: &Domain<S, R>, id: PacketId, byte: u8) -> Option<Answered> {
-    match domain.pkt_bytes(id) {
-        Ok(bytes) => {
-            for b in bytes {
-                if *b != byte {
-                    return None;
-                }
+    let count = match domain.pkt_pieces(id) {
+        Ok(count) => count,
+        Err(word) => return Some(Err(word)),
+    };
+    let mut size: u32 = 0;
+    for n in 0..count {
+        let Ok(bytes) = domain.pkt_piece(id, n) else {
+            return None;
+        };
+        for b in bytes {
+            if *b != byte {
+                return None;
             }
-            Some(Ok(Lent(id.buffer, id.serial, bytes.len() as u32)))
         }
-        Err(word) => Some(Err(word)),
+        size = size.wrapping_add(bytes.len() as u32);
     }
+    Some(Ok(Lent(id.buffer, id.serial, size)))
 }
 
 fn sent_scalar<S: SendEnd, R: RecvEnd>(
