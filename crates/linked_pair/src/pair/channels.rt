@@ -166,6 +166,7 @@ impl LinkedPair {
         ensures count { IfOk result (λ n. Some n ≡ option_map length (pieces_lent_as (domain_of which self.now) id)) }
         ensures some { IfOk result (λ n. 0 < n) }
         ensures whole { content_by (pieces_lent_as (domain_of which self.now) id) ≡ option_map (λ p. p.item.content) (packet_lent_as (domain_of which self.now) id) }
+        ensures short { IfSome (packet_lent_as (domain_of which self.now) id) (λ p. length p.item.content ≤ 488) }
         ensures refused { IsErr result ↔ IsNone (packet_lent_as (domain_of which self.now) id) }
         ensures word { IfErr result (λ word. word ≡ BufInvalid) }
     {
