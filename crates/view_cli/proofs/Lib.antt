@@ -1,3 +1,4 @@
 pub mod Showing
 pub mod Inputs
 pub mod AnswersFound
+pub mod PicturesWritten

@@ -35,7 +35,7 @@ first_awaited form.Expect = awaited.File
 first_awaited other = awaited.Option
 
 abbrev pub unasked : Form → Reading
-unasked f = reading (record { form = f; filter = record { domain = None; channel = None; line = None; refused = false }; together = false; check = false }) (first_awaited f)
+unasked f = reading (record { form = f; filter = record { domain = None; channel = None; line = None; refused = false }; together = false; check = false; from = None; to = None }) (first_awaited f)
 
 -- ---- the calls that are kept
 
@@ -48,6 +48,14 @@ of_channel a d n = reading (record a { filter = record a.filter { channel = Some
 abbrev pub of_line : Asked → ℕ → Reading
 of_line a k = reading (record a { filter = record a.filter { line = Some k } }) awaited.Option
 
+-- ---- the events that are drawn
+
+abbrev pub of_from : Asked → ℕ → Reading
+of_from a k = reading (record a { from = Some k }) awaited.Option
+
+abbrev pub of_to : Asked → ℕ → Reading
+of_to a k = reading (record a { to = Some k }) awaited.Option
+
 -- ---- the words
 
 -- behind an option
@@ -58,6 +66,8 @@ behind_option a option.Line = reading a awaited.Line
 behind_option a option.Refused = reading (record a { filter = record a.filter { refused = true } }) awaited.Option
 behind_option a option.Check = reading (record a { check = true }) awaited.Option
 behind_option a option.Together = reading (record a { together = true }) awaited.Option
+behind_option a option.From = reading a awaited.From
+behind_option a option.To = reading a awaited.To
 
 -- behind a word that is to be this
 abbrev pub word_as : Awaited → Asked → List ℕ → Option Reading
@@ -65,6 +75,8 @@ word_as awaited.Option a word = option_map (behind_option a) (option_in a.form w
 word_as awaited.File a word = Some (reading a awaited.Option)
 word_as awaited.Domain a word = option_map (of_domain a) (number_to domain_most word)
 word_as awaited.Line a word = option_map (of_line a) (number_to most word)
+word_as awaited.From a word = option_map (of_from a) (number_to most word)
+word_as awaited.To a word = option_map (of_to a) (number_to most word)
 word_as awaited.Channel a word = option_map (λ d. reading a (awaited.ChannelOf d)) (number_to domain_most word)
 word_as (awaited.ChannelOf d) a word = option_map (of_channel a d) (number_to most word)
 

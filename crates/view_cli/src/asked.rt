@@ -1,7 +1,7 @@
 //! What the words of the program ask for.
 
 ghost use Rattle.std.specs.Prelude.{◌≡◌, Some};
-ghost use Rattle.view_cli.specs.Asked.{asked_by, behind_option, first_awaited, number_to as number_in, of_channel, of_domain, of_line, unasked, whole as whole_of, word_as, words_read};
+ghost use Rattle.view_cli.specs.Asked.{asked_by, behind_option, first_awaited, number_to as number_in, of_channel, of_domain, of_from, of_line, of_to, unasked, whole as whole_of, word_as, words_read};
 ghost use Rattle.view_cli.specs.Words.{words_of};
 ghost use Rattle.view_cli.specs.declared.asked.Awaited.TheVariants as awaited;
 ghost use Rattle.view_cli.specs.declared.form.OptionName.TheVariants as named;
@@ -20,6 +20,10 @@ pub struct Asked {
     pub together: bool,
     /// Nothing is shown of a report that is not right.
     pub check: bool,
+    /// The number of the first event that is drawn, counted from 1.
+    pub from: Option<u32>,
+    /// The number of the last event that is drawn.
+    pub to: Option<u32>,
 }
 
 /// What the next word is to be.
@@ -33,6 +37,10 @@ enum Awaited {
     Domain,
     /// The number of a line.
     Line,
+    /// The number of the first event.
+    From,
+    /// The number of the last event.
+    To,
     /// The number of a domain, and behind it that of a channel.
     Channel,
     /// The number of a channel of this domain.
@@ -52,7 +60,7 @@ fn awaited_behind(form: Form) -> Awaited
 {
     match form {
         Form::Expect => Awaited::File,
-        Form::Refused | Form::Text => Awaited::Option,
+        Form::Refused | Form::Text | Form::Sequence | Form::Lanes | Form::Trace => Awaited::Option,
     }
 }
 
@@ -72,6 +80,8 @@ fn start(form: Form) -> Reading
             filter,
             together: false,
             check: false,
+            from: None,
+            to: None,
         },
         awaited: awaited_behind(form),
     }
@@ -139,6 +149,32 @@ fn with_channel(asked: Asked, domain: u8, number: u32) -> Reading
     }
 }
 
+/// Draws the events from this number on.
+fn with_from(asked: Asked, first: u32) -> Reading
+    ensures { result ≡ of_from asked first }
+{
+    Reading {
+        asked: Asked {
+            from: Some(first),
+            ..asked
+        },
+        awaited: Awaited::Option,
+    }
+}
+
+/// Draws the events up to this number.
+fn with_to(asked: Asked, last: u32) -> Reading
+    ensures { result ≡ of_to asked last }
+{
+    Reading {
+        asked: Asked {
+            to: Some(last),
+            ..asked
+        },
+        awaited: Awaited::Option,
+    }
+}
+
 /// Begins an option, or adds it where nothing is to follow it.
 fn with_option(asked: Asked, option: OptionName) -> Reading
     ensures { result ≡ behind_option asked option }
@@ -163,6 +199,14 @@ fn with_option(asked: Asked, option: OptionName) -> Reading
                 ..asked
             },
             awaited: Awaited::Option,
+        },
+        OptionName::From => Reading {
+            asked,
+            awaited: Awaited::From,
+        },
+        OptionName::To => Reading {
+            asked,
+            awaited: Awaited::To,
         },
         OptionName::Together => Reading {
             asked: Asked {
@@ -217,6 +261,24 @@ fn read_line(asked: Asked, word: &[u8]) -> Option<Reading>
     }
 }
 
+fn read_from(asked: Asked, word: &[u8]) -> Option<Reading>
+    ensures { result ≡ word_as awaited.From asked word.now }
+{
+    match number(u32::MAX, word) {
+        Some(first) => Some(with_from(asked, first)),
+        None => None,
+    }
+}
+
+fn read_to(asked: Asked, word: &[u8]) -> Option<Reading>
+    ensures { result ≡ word_as awaited.To asked word.now }
+{
+    match number(u32::MAX, word) {
+        Some(last) => Some(with_to(asked, last)),
+        None => None,
+    }
+}
+
 fn read_channel(asked: Asked, word: &[u8]) -> Option<Reading>
     ensures { result ≡ word_as awaited.Channel asked word.now }
 {
@@ -251,6 +313,8 @@ fn read_word(reading: Reading, word: &[u8]) -> Option<Reading>
         }),
         Awaited::Domain => read_domain(asked, word),
         Awaited::Line => read_line(asked, word),
+        Awaited::From => read_from(asked, word),
+        Awaited::To => read_to(asked, word),
         Awaited::Channel => read_channel(asked, word),
         Awaited::ChannelOf { domain } => read_channel_of(domain, asked, word),
     }
@@ -294,6 +358,6 @@ pub fn read_asked(words: &[String]) -> Option<Asked>
 pub fn file_asked(words: &[String]) -> Option<&String> {
     match read_asked(words)?.form {
         Form::Expect => words.get(1),
-        Form::Refused | Form::Text => None,
+        Form::Refused | Form::Text | Form::Sequence | Form::Lanes | Form::Trace => None,
     }
 }

@@ -12,6 +12,12 @@ pub enum Form {
     Text,
     /// `expect FILE`: whether the answers are those that a scenario file expects.
     Expect,
+    /// `sequence`: what the domains did, as a sequence diagram.
+    Sequence,
+    /// `lanes`: where the buffers of each lane are, as a chart.
+    Lanes,
+    /// `trace`: what the domains did, as a trace for a trace viewer.
+    Trace,
 }
 
 /// An option of a form.
@@ -29,6 +35,10 @@ pub enum OptionName {
     Together,
     /// `--check`: nothing is shown of a report that is not right.
     Check,
+    /// `--from K`: the events from this number in their order on.
+    From,
+    /// `--to K`: the events up to this number in their order.
+    To,
 }
 
 /// Returns the word of a form.
@@ -39,13 +49,23 @@ fn form_word(form: Form) -> &'static [u8]
         Form::Refused => b"refused",
         Form::Text => b"text",
         Form::Expect => b"expect",
+        Form::Sequence => b"sequence",
+        Form::Lanes => b"lanes",
+        Form::Trace => b"trace",
     }
 }
 
 fn all_forms() -> &'static [Form]
     ensures { result.now ≡ forms }
 {
-    &[Form::Refused, Form::Text, Form::Expect]
+    &[
+        Form::Refused,
+        Form::Text,
+        Form::Expect,
+        Form::Sequence,
+        Form::Lanes,
+        Form::Trace,
+    ]
 }
 
 /// Returns the options that a form takes.
@@ -53,7 +73,8 @@ fn options_of(form: Form) -> &'static [OptionName]
     ensures { result.now ≡ options_taken form }
 {
     match form {
-        Form::Refused | Form::Expect => &[OptionName::Check],
+        Form::Refused | Form::Expect | Form::Lanes | Form::Trace => &[OptionName::Check],
+        Form::Sequence => &[OptionName::From, OptionName::To, OptionName::Check],
         Form::Text => &[
             OptionName::Domain,
             OptionName::Channel,
@@ -76,6 +97,8 @@ fn option_word(option: OptionName) -> &'static [u8]
         OptionName::Refused => b"--refused",
         OptionName::Together => b"--together",
         OptionName::Check => b"--check",
+        OptionName::From => b"--from",
+        OptionName::To => b"--to",
     }
 }
 

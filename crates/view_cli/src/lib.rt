@@ -4,6 +4,7 @@
 mod asked;
 mod expect;
 mod form;
+mod pictures;
 mod refused;
 mod status;
 mod text;

@@ -3,15 +3,17 @@ ghost use Rattle.std.specs.Io.KnownBytes.{Appends};
 ghost use Rattle.report_text.specs.Verdicts.{verdict_on};
 ghost use Rattle.report_text.specs.declared.verdict.Verdict.TheVariants.{Right};
 ghost use Rattle.view_cli.specs.Asked.{asked_by, asks_for_check, form_asked};
+ghost use Rattle.view_cli.specs.Drawn.{Draws, ShowsPicture, charted, sequenced, traced};
 ghost use Rattle.view_cli.specs.ExpectedAnswers.{ShowsAnswers, ShowsExpected};
 ghost use Rattle.view_cli.specs.RefusedCalls.{ListsRefused, ShowsRefused};
 ghost use Rattle.view_cli.specs.Statuses.{Ends, EndsOn, Shows, WritesThis};
 ghost use Rattle.view_cli.specs.Words.{usage_text, words_of};
-ghost use Rattle.view_cli.specs.declared.form.Form.TheVariants.{Expect, Refused};
+ghost use Rattle.view_cli.specs.declared.form.Form.TheVariants.{Expect, Lanes, Refused, Sequence, Trace};
 
 use crate::asked::{Asked, read_asked};
 use crate::expect::tell_expected;
 use crate::form::Form;
+use crate::pictures::{tell_lanes, tell_sequence, tell_trace};
 use crate::refused::tell_refused;
 use crate::status::{self, after_read, after_write};
 use crate::text::tell_text;
@@ -31,7 +33,7 @@ const FILE_LIMIT: usize = 8_388_608;
 
 /// What is written where the words are those of no form.
 const USAGE: &[u8] =
-    b"usage: mcview refused | text [--domain D] [--channel D N] [--line K] [--refused] [--together] | expect FILE, each [--check]\n";
+    b"usage: mcview refused | text [--domain D] [--channel D N] [--line K] [--refused] [--together] | expect FILE | sequence [--from K] [--to K] | lanes | trace, each [--check]\n";
 
 /// Does what the words say with the report of a board, writes the output, and returns the status to end with. `file` is the scenario file
 /// that [`file_asked`](crate::file_asked) names; it is read where it names one.
@@ -40,7 +42,9 @@ const USAGE: &[u8] =
 /// in the domain's script, the line, and behind a colon the word of the refusal. The form `text` writes what each domain did for each line
 /// of its script, in words. Its options keep the calls of a domain, those with a frame of a channel, that of a line, or those that were
 /// refused, and show all domains in one order. The form `expect` writes of each answer that a scenario file expects, in the order of its
-/// lines, whether it is that of the report, in the form of TAP. With `--check` each shows only a report that `mcrun check` finds right.
+/// lines, whether it is that of the report, in the form of TAP. The forms `sequence`, `lanes` and `trace` write pictures of the report: a
+/// sequence diagram of its events from one number in their order to another and a chart of its lanes, both in SVG, and a trace in JSON.
+/// With `--check` each shows only a report that `mcrun check` finds right.
 ///
 /// The statuses are 0 where the output was written, 1 where `refused` wrote a line or an answer is not as expected, 2 where the words are
 /// those of no form and the usage was written, 3 where the input is no report, has no such order, is of another scenario or was to be
@@ -65,6 +69,11 @@ pub fn mcview<S: Source, F: Source, K: Sink>(
     ensures checked { asks_for_check (words_of words.now) ≡ true → result ≤ 1 → IfSome (S.rest input.old) (λ report. verdict_on report ≡ Right) }
     ensures file_unread { (form_asked (words_of words.now) ≡ Some Expect → ⊥) → file.new ≡ file.old }
 
+    // The words of a picture: it was drawn of what the journals say, each line once, in an order in which causes come first.
+    ensures sequence { form_asked (words_of words.now) ≡ Some Sequence → result ≡ 0 → IfSome (S.rest input.old) (λ report. ShowsPicture sequenced report (K.written output.old) (K.written output.new)) }
+    ensures lanes { form_asked (words_of words.now) ≡ Some Lanes → result ≡ 0 → IfSome (S.rest input.old) (λ report. ShowsPicture charted report (K.written output.old) (K.written output.new)) }
+    ensures trace { form_asked (words_of words.now) ≡ Some Trace → result ≡ 0 → IfSome (S.rest input.old) (λ report. ShowsPicture traced report (K.written output.old) (K.written output.new)) }
+
     // Words of no form, for which nothing is read: the usage. 2 comes with them alone.
     ensures usage { asked_by (words_of words.now) ≡ None → WritesThis K.Sink usage_text 2 result output.old output.new }
     ensures usage_reads_nothing { asked_by (words_of words.now) ≡ None → input.new ≡ input.old }
@@ -87,6 +96,9 @@ fn with_file<S: Source, F: Source, K: Sink>(
     ensures ends { Ends S.Source F.Source K.Sink result input.old input.new file.old file.new output.old output.new }
     ensures form { result ≢ 2 }
     ensures refused { asked.form ≡ Refused → result ≤ 1 → IfSome (S.rest input.old) (λ report. ShowsRefused report result (K.written output.old) (K.written output.new)) }
+    ensures sequence { asked.form ≡ Sequence → result ≡ 0 → IfSome (S.rest input.old) (λ report. ShowsPicture sequenced report (K.written output.old) (K.written output.new)) }
+    ensures lanes { asked.form ≡ Lanes → result ≡ 0 → IfSome (S.rest input.old) (λ report. ShowsPicture charted report (K.written output.old) (K.written output.new)) }
+    ensures trace { asked.form ≡ Trace → result ≡ 0 → IfSome (S.rest input.old) (λ report. ShowsPicture traced report (K.written output.old) (K.written output.new)) }
     ensures expected { asked.form ≡ Expect → result ≤ 1 → IfSome (F.rest file.old) (λ text. IfSome (S.rest input.old) (λ report. ShowsExpected text report result (K.written output.old) (K.written output.new))) }
     ensures checked { asked.check ≡ true → result ≤ 1 → IfSome (S.rest input.old) (λ report. verdict_on report ≡ Right) }
     ensures file_unread { (asked.form ≡ Expect → ⊥) → file.new ≡ file.old }
@@ -96,7 +108,9 @@ fn with_file<S: Source, F: Source, K: Sink>(
             Ok(text) => with_input(alloc, asked, &text, input, output),
             Err(fault) => after_read(fault),
         },
-        Form::Refused | Form::Text => with_input(alloc, asked, &[], input, output),
+        Form::Refused | Form::Text | Form::Sequence | Form::Lanes | Form::Trace => {
+            with_input(alloc, asked, &[], input, output)
+        }
     }
 }
 
@@ -112,6 +126,9 @@ fn with_input<S: Source, K: Sink>(
     ensures ends { EndsOn S.Source K.Sink result input.old input.new output.old output.new }
     ensures form { result ≢ 2 }
     ensures refused { asked.form ≡ Refused → result ≤ 1 → IfSome (S.rest input.old) (λ report. ShowsRefused report result (K.written output.old) (K.written output.new)) }
+    ensures sequence { asked.form ≡ Sequence → result ≡ 0 → IfSome (S.rest input.old) (λ report. ShowsPicture sequenced report (K.written output.old) (K.written output.new)) }
+    ensures lanes { asked.form ≡ Lanes → result ≡ 0 → IfSome (S.rest input.old) (λ report. ShowsPicture charted report (K.written output.old) (K.written output.new)) }
+    ensures trace { asked.form ≡ Trace → result ≡ 0 → IfSome (S.rest input.old) (λ report. ShowsPicture traced report (K.written output.old) (K.written output.new)) }
     ensures expected { asked.form ≡ Expect → result ≤ 1 → IfSome (S.rest input.old) (λ report. ShowsExpected file.now report result (K.written output.old) (K.written output.new)) }
     ensures checked { asked.check ≡ true → result ≤ 1 → IfSome (S.rest input.old) (λ report. verdict_on report ≡ Right) }
 {
@@ -133,6 +150,9 @@ fn with_report<K: Sink>(
     requires file { length file.now ≤ 8388608 }
     ensures shows { Shows K.Sink result output.old output.new }
     ensures refused { asked.form ≡ Refused → result ≤ 1 → ShowsRefused report.now result (K.written output.old) (K.written output.new) }
+    ensures sequence { asked.form ≡ Sequence → result ≡ 0 → ShowsPicture sequenced report.now (K.written output.old) (K.written output.new) }
+    ensures lanes { asked.form ≡ Lanes → result ≡ 0 → ShowsPicture charted report.now (K.written output.old) (K.written output.new) }
+    ensures trace { asked.form ≡ Trace → result ≡ 0 → ShowsPicture traced report.now (K.written output.old) (K.written output.new) }
     ensures expected { asked.form ≡ Expect → result ≤ 1 → ShowsExpected file.now report.now result (K.written output.old) (K.written output.new) }
     ensures checked { asked.check ≡ true → result ≤ 1 → verdict_on report.now ≡ Right }
 {
@@ -163,10 +183,13 @@ fn show_report<K: Sink>(
     requires file { length file.now ≤ 8388608 }
     ensures shows { Shows K.Sink result output.old output.new }
     ensures refused { asked.form ≡ Refused → result ≤ 1 → ShowsRefused report.now result (K.written output.old) (K.written output.new) }
+    ensures sequence { asked.form ≡ Sequence → result ≡ 0 → ShowsPicture sequenced report.now (K.written output.old) (K.written output.new) }
+    ensures lanes { asked.form ≡ Lanes → result ≡ 0 → ShowsPicture charted report.now (K.written output.old) (K.written output.new) }
+    ensures trace { asked.form ≡ Trace → result ≡ 0 → ShowsPicture traced report.now (K.written output.old) (K.written output.new) }
     ensures expected { asked.form ≡ Expect → result ≤ 1 → ShowsExpected file.now report.now result (K.written output.old) (K.written output.new) }
 {
     match read_view(alloc, report) {
-        Ok(view) => show(alloc, asked, file, &view, report.len(), output),
+        Ok(view) => show(alloc, asked, file, report, &view, output),
         Err(TextFault::Wrong { line }) => {
             after_write(write_wrong(line, b"text", output), status::NO_REPORT)
         }
@@ -174,23 +197,29 @@ fn show_report<K: Sink>(
     }
 }
 
-/// Shows what a report of so many bytes says. Returns the status.
+/// Shows what a report says. Returns the status.
 fn show<K: Sink>(
     alloc: Global,
     asked: Asked,
     file: &[u8],
+    report: &[u8],
     view: &View<'_>,
-    size: usize,
     output: &mut K,
 ) -> u8
     requires { length file.now ≤ 8388608 }
     ensures shows { Shows K.Sink result output.old output.new }
     ensures refused { asked.form ≡ Refused → result ≤ 3 → (text : List ℕ) × ListsRefused view.now.domains.items result text × Appends (K.written output.old) (K.written output.new) text }
+    ensures sequence { asked.form ≡ Sequence → result ≡ 0 → Draws sequenced view.now.domains.items (K.written output.old) (K.written output.new) }
+    ensures lanes { asked.form ≡ Lanes → result ≡ 0 → Draws charted view.now.domains.items (K.written output.old) (K.written output.new) }
+    ensures trace { asked.form ≡ Trace → result ≡ 0 → Draws traced view.now.domains.items (K.written output.old) (K.written output.new) }
     ensures expected { asked.form ≡ Expect → result ≤ 1 → ShowsAnswers file.now view.now result (K.written output.old) (K.written output.new) }
 {
     match asked.form {
         Form::Refused => tell_refused(alloc, view, output),
-        Form::Text => tell_text(alloc, view, size, asked, output),
+        Form::Text => tell_text(alloc, view, report.len(), asked, output),
         Form::Expect => tell_expected(alloc, file, view, output),
+        Form::Sequence => tell_sequence(alloc, report, view, asked, output),
+        Form::Lanes => tell_lanes(alloc, report, view, output),
+        Form::Trace => tell_trace(alloc, report, view, output),
     }
 }

@@ -240,7 +240,7 @@ domain 1, 7: 1.0 create 1
 ";
 
 const USAGE: &str =
-    "usage: mcview refused | text [--domain D] [--channel D N] [--line K] [--refused] [--together] | expect FILE, each [--check]\n";
+    "usage: mcview refused | text [--domain D] [--channel D N] [--line K] [--refused] [--together] | expect FILE | sequence [--from K] [--to K] | lanes | trace, each [--check]\n";
 
 /// The number of no call of a source or sink.
 const NEVER: u64 = 1_000_000_000;
@@ -304,7 +304,7 @@ fn unfailing<'a>(words: &'a [&'a str], text: &'a [u8]) -> Given<'a> {
 /// Words and a text, and the status and the output that come of them.
 type Outcome<'a> = (&'a [&'a str], &'a str, u8, &'a str);
 
-static OUTCOMES: [Outcome<'static>; 32] = [
+static OUTCOMES: [Outcome<'static>; 38] = [
     (&["refused"], ONE_BUFFER, 1, ONE_BUFFER_REFUSED),
     (&["refused"], WAIT, 1, "6 0 2 0.0 wait far 3: timeout\n"),
     (&["text"], ONE_BUFFER, 0, ONE_BUFFER_TEXT),
@@ -341,6 +341,9 @@ static OUTCOMES: [Outcome<'static>; 32] = [
     // A report that is not right is not shown where it is checked.
     (&["text", "--check"], TAKEN, 3, "wrong 7 step\n"),
     (&["refused", "--check"], ONE_BUFFER, 1, ONE_BUFFER_REFUSED),
+    (&["sequence", "--check"], TAKEN, 3, "wrong 7 step\n"),
+    (&["lanes", "--check"], TAKEN, 3, "wrong 7 step\n"),
+    (&["trace", "--check"], TAKEN, 3, "wrong 7 step\n"),
     (&["text", "--together"], TAKEN, 3, "wrong 7 order\n"),
     // An option counts as it is given last.
     (
@@ -368,6 +371,9 @@ static OUTCOMES: [Outcome<'static>; 32] = [
     (&["text", "--domain", "8"], ONE_BUFFER, 2, USAGE),
     (&["text", "--channel", "1"], ONE_BUFFER, 2, USAGE),
     (&["text", "--lines", "1"], ONE_BUFFER, 2, USAGE),
+    (&["sequence", "--from"], ONE_BUFFER, 2, USAGE),
+    (&["lanes", "--from", "1"], ONE_BUFFER, 2, USAGE),
+    (&["trace"], "", 3, "wrong 1 text\n"),
     (&["text", "--line", "01"], ONE_BUFFER, 2, USAGE),
     (&["text", "--line", "4294967296"], ONE_BUFFER, 2, USAGE),
     (&["text", "--refused", "1"], ONE_BUFFER, 2, USAGE),
@@ -454,6 +460,60 @@ fn answers_are_compared(rt: HostRuntime) -> Result<(), Fail> {
         };
         assert!(rt;
             comes_out(rt.alloc(), given, *status, written.as_bytes())?,
+            "row {i}"
+        );
+    }
+    Ok(())
+}
+
+/// Words that draw a picture, and with what its text begins and ends.
+type Picture<'a> = (&'a [&'a str], &'a [u8], &'a [u8]);
+
+static PICTURES: [Picture<'static>; 4] = [
+    (&["trace"], b"{\"displayTimeUnit\":\"ns\",", b"\n]}\n"),
+    (&["lanes"], b"<svg xmlns=", b"</svg>\n"),
+    (&["sequence"], b"<svg xmlns=", b"</svg>\n"),
+    (
+        &["sequence", "--from", "3", "--to", "5"],
+        b"<svg xmlns=",
+        b"</svg>\n",
+    ),
+];
+
+#[test]
+fn forms_draw_reports(rt: HostRuntime) -> Result<(), Fail> {
+    for (i, (words, front, end)) in PICTURES.iter().enumerate() {
+        for text in [ONE_BUFFER, WAIT] {
+            let (status, output) = outcome_of(rt.alloc(), unfailing(*words, text.as_bytes()))?;
+            assert_eq!(rt; status, 0, "row {i}");
+            assert!(rt; output.written().starts_with(*front), "row {i}");
+            assert!(rt; output.written().ends_with(*end), "row {i}");
+        }
+    }
+    Ok(())
+}
+
+/// Words that draw a picture, and the same words with `--check`.
+type Checked<'a> = (&'a [&'a str], &'a [&'a str]);
+
+static CHECKED: [Checked<'static>; 3] = [
+    (&["sequence"], &["sequence", "--check"]),
+    (&["lanes"], &["lanes", "--check"]),
+    (&["trace"], &["trace", "--check"]),
+];
+
+#[test]
+fn a_right_report_is_drawn_where_it_is_checked(rt: HostRuntime) -> Result<(), Fail> {
+    for (i, (words, checked)) in CHECKED.iter().enumerate() {
+        let (status, drawn) = outcome_of(rt.alloc(), unfailing(*words, ONE_BUFFER.as_bytes()))?;
+        assert_eq!(rt; status, 0, "row {i}");
+        assert!(rt;
+            comes_out(
+                rt.alloc(),
+                unfailing(*checked, ONE_BUFFER.as_bytes()),
+                0,
+                drawn.written()
+            )?,
             "row {i}"
         );
     }

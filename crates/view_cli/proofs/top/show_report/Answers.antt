@@ -23,3 +23,27 @@ returns-in-Ok-clause-refused g c = λ is few.
 pub returns-in-Ok-clause-expected : goal.returns-in-Ok-clause-expected
 returns-in-Ok-clause-expected g c = λ is few.
     record { view = c.in-Ok.view; told = c.in-Ok.ensures.told; journals = c.in-Ok.ensures.journals; answers = c.show.ensures.expected is few }
+
+pub returns-in-Ok-clause-sequence : goal.returns-in-Ok-clause-sequence
+returns-in-Ok-clause-sequence g c = λ is done.
+    record { view = c.in-Ok.view; told = c.in-Ok.ensures.told; journals = c.in-Ok.ensures.journals; draws = c.show.ensures.sequence is done }
+
+pub returns-in-Err-Wrong-clause-sequence : goal.returns-in-Err-Wrong-clause-sequence
+returns-in-Err-Wrong-clause-sequence g c = λ is done.
+    absurd (not_listed c.write_wrong.result c.after_write.result c.after_write.ensures.whole c.after_write.ensures.failed (omega (arith, done)))
+
+pub returns-in-Ok-clause-lanes : goal.returns-in-Ok-clause-lanes
+returns-in-Ok-clause-lanes g c = λ is done.
+    record { view = c.in-Ok.view; told = c.in-Ok.ensures.told; journals = c.in-Ok.ensures.journals; draws = c.show.ensures.lanes is done }
+
+pub returns-in-Err-Wrong-clause-lanes : goal.returns-in-Err-Wrong-clause-lanes
+returns-in-Err-Wrong-clause-lanes g c = λ is done.
+    absurd (not_listed c.write_wrong.result c.after_write.result c.after_write.ensures.whole c.after_write.ensures.failed (omega (arith, done)))
+
+pub returns-in-Ok-clause-trace : goal.returns-in-Ok-clause-trace
+returns-in-Ok-clause-trace g c = λ is done.
+    record { view = c.in-Ok.view; told = c.in-Ok.ensures.told; journals = c.in-Ok.ensures.journals; draws = c.show.ensures.trace is done }
+
+pub returns-in-Err-Wrong-clause-trace : goal.returns-in-Err-Wrong-clause-trace
+returns-in-Err-Wrong-clause-trace g c = λ is done.
+    absurd (not_listed c.write_wrong.result c.after_write.result c.after_write.ensures.whole c.after_write.ensures.failed (omega (arith, done)))

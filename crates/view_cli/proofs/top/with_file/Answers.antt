@@ -1,3 +1,4 @@
+use Rattle.std.proofs.Common.{arith}
 use Rattle.std.specs.Prelude.{IfSome}
 use Rattle.view_cli.specs.ExpectedAnswers.{ShowsExpected}
 use Rattle.view_cli.proofs.Inputs.{if_text, ok-differs}
@@ -29,3 +30,12 @@ returns-in-Err-clause-expected g c = λ is few. absurd (not_read c.in-Err.fault 
 
 pub returns-in-Err-clause-checked : goal.returns-in-Err-clause-checked
 returns-in-Err-clause-checked g c = λ is few. absurd (not_read c.in-Err.fault c.after_read.result c.after_read.ensures few)
+
+pub returns-in-Err-clause-sequence : goal.returns-in-Err-clause-sequence
+returns-in-Err-clause-sequence g c = λ is done. absurd (not_read c.in-Err.fault c.after_read.result c.after_read.ensures (omega (arith, done)))
+
+pub returns-in-Err-clause-lanes : goal.returns-in-Err-clause-lanes
+returns-in-Err-clause-lanes g c = λ is done. absurd (not_read c.in-Err.fault c.after_read.result c.after_read.ensures (omega (arith, done)))
+
+pub returns-in-Err-clause-trace : goal.returns-in-Err-clause-trace
+returns-in-Err-clause-trace g c = λ is done. absurd (not_read c.in-Err.fault c.after_read.result c.after_read.ensures (omega (arith, done)))

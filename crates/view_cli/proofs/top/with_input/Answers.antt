@@ -1,6 +1,7 @@
-use Rattle.std.proofs.Common.{◌≡◌}
+use Rattle.std.proofs.Common.{◌≡◌, arith}
 use Rattle.report_text.specs.Verdicts.{verdict_on}
 use Rattle.report_text.specs.declared.verdict.Verdict.TheVariants.{Right}
+use Rattle.view_cli.specs.Drawn.{ShowsPicture, charted, sequenced, traced}
 use Rattle.view_cli.specs.ExpectedAnswers.{ShowsExpected}
 use Rattle.view_cli.specs.RefusedCalls.{ShowsRefused}
 use Rattle.view_cli.proofs.Inputs.{if_text, ok-differs}
@@ -40,3 +41,27 @@ pub returns-in-Ok-clause-checked : goal.returns-in-Ok-clause-checked
 returns-in-Ok-clause-checked g c = λ is few.
     let bytes = rw (← c.deref.ensures.value) at c.in-Ok.ensures.bytes in
     if_text _ _ c.deref.result.now (λ report. verdict_on report ≡ Right) bytes c.in-Ok.ensures.end (c.with_report.ensures.checked is few)
+
+pub returns-in-Ok-clause-sequence : goal.returns-in-Ok-clause-sequence
+returns-in-Ok-clause-sequence g c = λ is done.
+    let bytes = rw (← c.deref.ensures.value) at c.in-Ok.ensures.bytes in
+    if_text _ _ c.deref.result.now (λ report. ShowsPicture sequenced report _ _) bytes c.in-Ok.ensures.end (c.with_report.ensures.sequence is done)
+
+pub returns-in-Err-clause-sequence : goal.returns-in-Err-clause-sequence
+returns-in-Err-clause-sequence g c = λ is done. absurd (not_read c.in-Err.fault c.after_read.result c.after_read.ensures (omega (arith, done)))
+
+pub returns-in-Ok-clause-lanes : goal.returns-in-Ok-clause-lanes
+returns-in-Ok-clause-lanes g c = λ is done.
+    let bytes = rw (← c.deref.ensures.value) at c.in-Ok.ensures.bytes in
+    if_text _ _ c.deref.result.now (λ report. ShowsPicture charted report _ _) bytes c.in-Ok.ensures.end (c.with_report.ensures.lanes is done)
+
+pub returns-in-Err-clause-lanes : goal.returns-in-Err-clause-lanes
+returns-in-Err-clause-lanes g c = λ is done. absurd (not_read c.in-Err.fault c.after_read.result c.after_read.ensures (omega (arith, done)))
+
+pub returns-in-Ok-clause-trace : goal.returns-in-Ok-clause-trace
+returns-in-Ok-clause-trace g c = λ is done.
+    let bytes = rw (← c.deref.ensures.value) at c.in-Ok.ensures.bytes in
+    if_text _ _ c.deref.result.now (λ report. ShowsPicture traced report _ _) bytes c.in-Ok.ensures.end (c.with_report.ensures.trace is done)
+
+pub returns-in-Err-clause-trace : goal.returns-in-Err-clause-trace
+returns-in-Err-clause-trace g c = λ is done. absurd (not_read c.in-Err.fault c.after_read.result c.after_read.ensures (omega (arith, done)))

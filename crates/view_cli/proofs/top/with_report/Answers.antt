@@ -17,3 +17,15 @@ returns-in-Ok-Wrong-clause-checked g c = λ is few. absurd (not_listed c.write_w
 
 pub returns-in-Err-clause-shows : goal.returns-in-Err-clause-shows
 returns-in-Err-clause-shows g c = shows_nothing g.K.Sink _
+
+pub returns-in-Ok-Wrong-clause-sequence : goal.returns-in-Ok-Wrong-clause-sequence
+returns-in-Ok-Wrong-clause-sequence g c = λ is done.
+    absurd (not_listed c.write_wrong.result c.after_write.result c.after_write.ensures.whole c.after_write.ensures.failed (omega (arith, done)))
+
+pub returns-in-Ok-Wrong-clause-lanes : goal.returns-in-Ok-Wrong-clause-lanes
+returns-in-Ok-Wrong-clause-lanes g c = λ is done.
+    absurd (not_listed c.write_wrong.result c.after_write.result c.after_write.ensures.whole c.after_write.ensures.failed (omega (arith, done)))
+
+pub returns-in-Ok-Wrong-clause-trace : goal.returns-in-Ok-Wrong-clause-trace
+returns-in-Ok-Wrong-clause-trace g c = λ is done.
+    absurd (not_listed c.write_wrong.result c.after_write.result c.after_write.ensures.whole c.after_write.ensures.failed (omega (arith, done)))
