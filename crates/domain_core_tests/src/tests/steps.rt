@@ -297,8 +297,8 @@ fn lent<S: SendEnd, R: RecvEnd>(domain: &Domain<S, R>, id: PacketId, byte: u8) -
             if *b != byte {
                 return None;
             }
+            size = size.wrapping_add(1);
         }
-        size = size.wrapping_add(bytes.len() as u32);
     }
     Some(Ok(Lent(id.buffer, id.serial, size)))
 }
