@@ -1,4 +1,5 @@
 mod programs;
+mod reports;
 
 use event_order::{Event, What, order_events};
 use outer_io::{MemSink, Writer};
