@@ -20,7 +20,7 @@ CountsAtMost None new n = ⊤
 CountsAtMost (Some before) None n = ⊥
 CountsAtMost (Some before) (Some now) n = now ≤ before + n
 
--- at most `limit` bytes were read, and no more reads were made than these and one: since each read that is not at the end and
--- doesn't fail moves one byte at least, and any may fail, none was made after one that failed
+-- at most `limit` bytes were read, and no more reads were made than these and one. Each read that is not at the end and doesn't fail moves one
+-- byte at least, so from a source that gives a byte at a time none was made after one that failed
 abbrev pub ReadsStop : Option (List ℕ) → Option (List ℕ) → Option ℕ → Option ℕ → ℕ → Type 0
 ReadsStop old new before now limit = (bytes : List ℕ) × (length bytes ≤ limit) × Consumes old new bytes × CountsAtMost before now (length bytes + 1)

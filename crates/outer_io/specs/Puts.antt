@@ -19,7 +19,7 @@ pub record Progress {K : Type 0} (sink : Ghosts K) (old new : Writer K) (text : 
   -- where this failed, a proper prefix of what was gathered and put was written, and the faults rose
   pub part : old.failed ≡ false → new.failed ≡ true → AppendsPart (sink.written old.sink.now) (sink.written new.sink.now) (old.gathered.items ++ text)
   pub rose : old.failed ≡ false → new.failed ≡ true → Rose (sink.faults old.sink.now) (sink.faults new.sink.now)
-  -- no more writes were made than bytes were written, and the one that failed was the last
+  -- no more writes were made than bytes were written; where one failed, one more
   pub few : new.failed ≡ false → CountsAtMost (sink.calls old.sink.now) (sink.calls new.sink.now) (length old.gathered.items + length text - length new.gathered.items)
   pub stops : old.failed ≡ false → new.failed ≡ true → WritesStop (sink.written old.sink.now) (sink.written new.sink.now) (sink.calls old.sink.now) (sink.calls new.sink.now) (old.gathered.items ++ text)
   -- without a failure no write failed
@@ -46,6 +46,6 @@ pub record IsFinished {K T E : Type 0} (sink : Ghosts K) (last : Writer K) (end 
   pub bytes : last.failed ≡ false → Writes (sink.written last.sink.now) (sink.written end) result last.gathered.items
   pub cause : last.failed ≡ false → HasCause (sink.faults last.sink.now) (sink.faults end) result
   pub room : (n : ℕ) → last.failed ≡ false → sink.takes last.sink.now n → length last.gathered.items ≤ n → IsOk result
-  -- no more writes are made than there are bytes, and none after one that failed
+  -- no more writes are made than there are bytes; where one fails, no more than bytes were written, and one
   pub few : last.failed ≡ false → OnOk result (CountsAtMost (sink.calls last.sink.now) (sink.calls end) (length last.gathered.items))
   pub stops : last.failed ≡ false → OnErr result (WritesStop (sink.written last.sink.now) (sink.written end) (sink.calls last.sink.now) (sink.calls end) last.gathered.items)

@@ -8,8 +8,8 @@ use Rattle.outer_io.specs.Calls.{CountsAtMost}
 abbrev pub AppendsPart : Option (List ℕ) → Option (List ℕ) → List ℕ → Type 0
 AppendsPart old new text = (front : List ℕ) × (back : List ℕ) × (text ≡ front ++ back) × (0 < length back) × Appends old new front
 
--- a part of the text was appended, and no more writes were made than its bytes and one: since each write that doesn't fail
--- appends one byte at least, and any may fail, the one that failed was the last
+-- a part of the text was appended, and no more writes were made than its bytes and one. Each write that doesn't fail appends one byte at
+-- least, so to a sink that takes a byte at a time the one that failed was the last
 abbrev pub WritesStop : Option (List ℕ) → Option (List ℕ) → Option ℕ → Option ℕ → List ℕ → Type 0
 WritesStop old new before now text = (front : List ℕ) × (length front < length text) × Appends old new front × CountsAtMost before now (length front + 1)
 
