@@ -3,6 +3,7 @@
 use Rattle.std.specs.Prelude.{ℕ, nat_lt, Bool, not, ◌&&◌, ◌==◌, List, ◌∷◌, ◌++◌, length, slice_index, Result, Ok, Err, if◌then◌else◌}
 use Rattle.byteorder.specs.Endian.{little_bytes}
 use Rattle.mc_base.specs.Bytes.{number_at}
+use Rattle.mc_base.specs.Limits.{domain_limit}
 use Rattle.call_service.specs.declared.reply.Reply.{Reply}
 use Rattle.call_service.specs.declared.reply.Status.{Status}
 use Rattle.call_service.specs.declared.reply.Status.TheVariants.{Done, Over, Old, Gap}
@@ -16,7 +17,7 @@ abbrev pub has_form : List ℕ → Bool
 has_form b = length b == 16 && (slice_index b 0 == 81 && slice_index b 3 == 0)
 
 abbrev pub is_client : ℕ → Bool
-is_client n = nat_lt 0 n && nat_lt n 8
+is_client n = nat_lt 0 n && nat_lt n domain_limit
 
 abbrev pub is_cell : ℕ → Bool
 is_cell n = nat_lt n 16
