@@ -118,69 +118,69 @@ fn entries_are_read_and_written(rt: HostRuntime) -> Result<(), Fail> {
     Ok(())
 }
 
-static REFUSALS: [&str; 29] = [
-    "node_invalid",
-    "exists_already",
-    "endp_limit",
-    "address_spent",
-    "endp_invalid",
-    "peer_invalid",
-    "on_channel",
-    "chan_connected",
-    "endp_busy",
-    "chan_limit",
-    "request_limit",
-    "not_connected",
-    "chan_direction",
-    "chan_type",
-    "chan_closed",
-    "already_open",
-    "not_open",
-    "msg_size",
-    "pkt_size",
-    "no_buffer",
-    "empty",
-    "scl_size",
-    "buf_invalid",
-    "request_invalid",
-    "pending",
-    "too_late",
-    "timeout",
-    "link_invalid",
-    "raw_sound",
-];
+static REFUSALS: &str = "\
+node_invalid
+exists_already
+endp_limit
+address_spent
+endp_invalid
+peer_invalid
+on_channel
+chan_connected
+endp_busy
+chan_limit
+request_limit
+not_connected
+chan_direction
+chan_type
+chan_closed
+already_open
+not_open
+msg_size
+pkt_size
+no_buffer
+empty
+scl_size
+buf_invalid
+request_invalid
+pending
+too_late
+timeout
+link_invalid
+raw_sound
+";
 
-static FATES: [&str; 25] = [
-    "frame_short",
-    "frame_long",
-    "header_len",
-    "payload_short",
-    "magic",
-    "version",
-    "kind",
-    "argument",
-    "channel",
-    "size",
-    "ns_size",
-    "ns_flags",
-    "ns_name",
-    "foreign_name",
-    "names_full",
-    "unknown_name",
-    "replies_full",
-    "acted",
-    "owed",
-    "no_endpoint",
-    "on_channel",
-    "handed",
-    "queued",
-    "closed",
-    "state",
-];
+static FATES: &str = "\
+frame_short
+frame_long
+header_len
+payload_short
+magic
+version
+kind
+argument
+channel
+size
+ns_size
+ns_flags
+ns_name
+foreign_name
+names_full
+unknown_name
+replies_full
+acted
+owed
+no_endpoint
+on_channel
+handed
+queued
+closed
+state
+";
 
-/// Asserts that each of these words, behind the same words, is a line that is read and written back.
-fn assert_words(rt: &impl Abort, alloc: Global, front: &str, words: &[&str]) -> Result<(), Fail> {
-    for word in words {
+/// Asserts that each of these words, one a line, is read and written back behind the same words.
+fn assert_words(rt: &impl Abort, alloc: Global, front: &str, words: &str) -> Result<(), Fail> {
+    for word in words.lines() {
         let line = format!(in alloc; "{front} {word}")?;
         assert!(rt; is_written_back(alloc, line.as_bytes())?, "{word}");
     }
@@ -189,115 +189,113 @@ fn assert_words(rt: &impl Abort, alloc: Global, front: &str, words: &[&str]) -> 
 
 #[test]
 fn each_word_is_read_and_written(rt: HostRuntime) -> Result<(), Fail> {
-    assert_words(&rt, rt.alloc(), "again", &REFUSALS)?;
-    assert_words(&rt, rt.alloc(), "take 0 -", &FATES)
+    assert_words(&rt, rt.alloc(), "again", REFUSALS)?;
+    assert_words(&rt, rt.alloc(), "take 0 -", FATES)
 }
 
-/// Lines that are no entry, each a little off one that is.
-static NEAR_MISSES: [&str; 80] = [
-    "wait",
-    "wait ",
-    "wait 01",
-    "wait 1 1",
-    "wait 4294967296",
-    "waits 1",
-    "",
-    " ",
-    "turns",
-    "turn ",
-    " turn",
-    "turn 1",
-    "Turn",
-    "idle",
-    "idle ",
-    "idle 01",
-    "idle 00",
-    "idle +1",
-    "idle -1",
-    "idle 1 ",
-    "idle  1",
-    " idle 1",
-    "idle\t1",
-    "idle 1\r",
-    "idle 1\n",
-    "idle 1a",
-    "idle 18446744073709551616",
-    "idle 99999999999999999999999",
-    "idler 1",
-    "back 256 1",
-    "back 1",
-    "back 1 4294967296",
-    "back 1 1 1",
-    "back 01 1",
-    "see 1 -1",
-    "see 300 1",
-    "see -",
-    "put 1",
-    "put 1 ",
-    "put 1 0",
-    "put 1 000",
-    "put 1 0A",
-    "put 1 A0",
-    "put 1 F",
-    "put 1 0g",
-    "put 1 --",
-    "put 1 00 ",
-    "put 1  00",
-    "put 256 00",
-    "put - 00",
-    "take 1 00",
-    "take 1 acted",
-    "take 1 - ",
-    "take 1 - Acted",
-    "take 1 - act",
-    "take 1 - actedly",
-    "take 1 - empty",
-    "take 1 - acted acted",
-    "again",
-    "again ok",
-    "again acted",
-    "spin 1",
-    "spin empty 1",
-    "spin 18446744073709551616 empty",
-    "call 1",
-    "call 1 ",
-    "call 4294967296 ok",
-    "call 1 ok 18446744073709551616",
-    "call 1 ok 3 68ff",
-    "call 1 ok 4294967296 68ff",
-    "call 1 ok 18446744073709551616 1",
-    "call 1 ok 6 4294967296",
-    "call 1 ok 05 1",
-    "call 1 ok 5 01",
-    "call 1 ok 5 1 ",
-    "call 1 ok  5 1",
-    "call 1 ok 5 1 1",
-    "call 1 ok 5 -1",
-    "call 1 truncated 2 6869",
-    "call 1 truncated 2",
-];
+/// Lines that are no entry, each a little off one that is. The first and the last blank of a line are `\x20`.
+static NEAR_MISSES: &str = "\
+wait
+wait\x20
+wait 01
+wait 1 1
+wait 4294967296
+waits 1
 
-static NEAR_RESULTS: [&str; 19] = [
-    "done",
-    "done ",
-    "done ok",
-    "done 4294967296",
-    "done 01",
-    "done accepted accepted",
-    "done rejected",
-    "done rejected ",
-    "done rejected full",
-    "done rejected busy busy",
-    "done 256 accepted",
-    "done 1 2 accepted",
-    "done 3 68691 -",
-    "done 01 accepted",
-    "done 1 ",
-    "done truncated 2 6869",
-    "done truncated 3",
-    "done done 1",
-    "done Accepted",
-];
+\x20
+turns
+turn\x20
+\x20turn
+turn 1
+Turn
+idle
+idle\x20
+idle 01
+idle 00
+idle +1
+idle -1
+idle 1\x20
+idle  1
+\x20idle 1
+idle\t1
+idle 1a
+idle 18446744073709551616
+idle 99999999999999999999999
+idler 1
+back 256 1
+back 1
+back 1 4294967296
+back 1 1 1
+back 01 1
+see 1 -1
+see 300 1
+see -
+put 1
+put 1\x20
+put 1 0
+put 1 000
+put 1 0A
+put 1 A0
+put 1 F
+put 1 0g
+put 1 --
+put 1 00\x20
+put 1  00
+put 256 00
+put - 00
+take 1 00
+take 1 acted
+take 1 -\x20
+take 1 - Acted
+take 1 - act
+take 1 - actedly
+take 1 - empty
+take 1 - acted acted
+again
+again ok
+again acted
+spin 1
+spin empty 1
+spin 18446744073709551616 empty
+call 1
+call 1\x20
+call 4294967296 ok
+call 1 ok 18446744073709551616
+call 1 ok 3 68ff
+call 1 ok 4294967296 68ff
+call 1 ok 18446744073709551616 1
+call 1 ok 6 4294967296
+call 1 ok 05 1
+call 1 ok 5 01
+call 1 ok 5 1\x20
+call 1 ok  5 1
+call 1 ok 5 1 1
+call 1 ok 5 -1
+call 1 truncated 2 6869
+call 1 truncated 2
+";
+
+static NEAR_RESULTS: &str = "\
+done
+done\x20
+done ok
+done 4294967296
+done 01
+done accepted accepted
+done rejected
+done rejected\x20
+done rejected full
+done rejected busy busy
+done 256 accepted
+done 1 2 accepted
+done 3 68691 -
+done 01 accepted
+done 1\x20
+done truncated 2 6869
+done truncated 3
+done done 1
+done Accepted
+";
 
 fn is_no_entry(alloc: Global, line: &[u8]) -> Result<bool, AllocError> {
     let mut room = room_for(alloc, line)?;
@@ -305,16 +303,16 @@ fn is_no_entry(alloc: Global, line: &[u8]) -> Result<bool, AllocError> {
 }
 
 /// Asserts that none of these lines is an entry.
-fn assert_no_entries(rt: &impl Abort, alloc: Global, lines: &[&str]) -> Result<(), Fail> {
-    for line in lines {
+fn assert_no_entries(rt: &impl Abort, alloc: Global, lines: &str) -> Result<(), Fail> {
+    for line in lines.lines() {
         assert!(rt; is_no_entry(alloc, line.as_bytes())?, "{line}");
     }
     Ok(())
 }
 
 /// Asserts that none of these is the answer of a call.
-fn assert_no_answers(rt: &impl Abort, alloc: Global, answers: &[&str]) -> Result<(), Fail> {
-    for answer in answers {
+fn assert_no_answers(rt: &impl Abort, alloc: Global, answers: &str) -> Result<(), Fail> {
+    for answer in answers.lines() {
         let line = format!(in alloc; "call 1 {answer}")?;
         assert!(rt; is_no_entry(alloc, line.as_bytes())?, "{line}");
     }
@@ -323,8 +321,12 @@ fn assert_no_answers(rt: &impl Abort, alloc: Global, answers: &[&str]) -> Result
 
 #[test]
 fn near_misses_are_no_entries(rt: HostRuntime) -> Result<(), Fail> {
-    assert_no_entries(&rt, rt.alloc(), &NEAR_MISSES)?;
-    assert_no_answers(&rt, rt.alloc(), &NEAR_RESULTS)?;
+    assert_no_entries(&rt, rt.alloc(), NEAR_MISSES)?;
+    assert_no_answers(&rt, rt.alloc(), NEAR_RESULTS)?;
+    for ending in [b'\r', b'\n'] {
+        let line = [b'i', b'd', b'l', b'e', b' ', b'1', ending];
+        assert!(rt; is_no_entry(rt.alloc(), &line)?, "{ending}");
+    }
     let shown = format!(in rt.alloc(); "{NotAnEntry}")?;
     assert!(rt; shown.as_str() == "the line is no entry of a journal");
     Ok(())
