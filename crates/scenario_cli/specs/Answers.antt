@@ -113,7 +113,7 @@ IsDue form text output = (sort : Sort) × IsAnswer form sort text output
 
 -- ---- what a form does with an input that was read
 
--- a write of this output failed: a proper prefix of it was written, no write was made after the one that failed, and the sink does not take
+-- a write of this output failed: a proper prefix of it was written, with no more writes than it has bytes and one, and the sink does not take
 -- the whole output
 pub record Stops {K : Type 0} (sink : SinkGhosts K) (old new : K) (output : List ℕ) : Type 0 where
   pub part : AppendsPart (sink.written old) (sink.written new) output
@@ -145,7 +145,7 @@ pub record Answers {S K : Type 0} (source : SourceGhosts S) (sink : SinkGhosts K
   pub end_once : IsOneOf (0 ∷ status_for form bad ∷ []) status → CountsOne (source.ends input) (source.ends input')
   -- they come where nothing fails and there is enough memory
   pub exact : (sort : Sort) → IfSome (source.rest input) (λ text. length text ≤ limit_of form → IsOfSort form sort text → IsOneOf (status_for form sort ∷ 4 ∷ 5 ∷ 6 ∷ []) status)
-  -- 4: no read was made after the one that failed
+  -- 4: no more reads were made than bytes came, and one
   pub reads_stop : status ≡ 4 → ReadsStop (source.rest input) (source.rest input') (source.calls input) (source.calls input') (limit_of form)
   -- 5: the output that is due breaks off
   pub writes_stop : status ≡ 5 → OfInput form (source.rest input) (λ text. (output : List ℕ) × IsDue form text output × Stops sink old new output)
@@ -179,7 +179,7 @@ pub record Writes {K : Type 0} (sink : SinkGhosts K) (text : List ℕ) (done sta
   pub whole : status ≡ done → Appends (sink.written old) (sink.written new) text
   pub stops : status ≡ 5 → Stops sink old new text
 
--- the same where it takes no memory
+-- the same where no memory is asked for, so there is no 6
 pub record WritesAtOnce {K : Type 0} (sink : SinkGhosts K) (text : List ℕ) (done status : ℕ) (old new : K) : Type 0 where
   pub statuses : IsOneOf (done ∷ 5 ∷ []) status
   pub whole : status ≡ done → Appends (sink.written old) (sink.written new) text

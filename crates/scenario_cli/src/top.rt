@@ -57,7 +57,7 @@ pub fn mcrun<T: Threads + Wait + Sync, S: Source, K: Sink>(
     ensures load { (packets : ℕ) → IsLoad packets (words_of words.now) → Writes K.Sink (load_report packets) 0 result output.old output.new }
     ensures load_reads_nothing { (packets : ℕ) → IsLoad packets (words_of words.now) → input.new ≡ input.old }
 
-    // Words of no form, for which nothing is read and no memory taken: the usage.
+    // Words of no form, for which nothing is read: the usage, and never 6.
     ensures usage { IsNoForm (words_of words.now) → WritesAtOnce K.Sink usage_text 2 result output.old output.new }
     ensures usage_reads_nothing { IsNoForm (words_of words.now) → input.new ≡ input.old }
 
