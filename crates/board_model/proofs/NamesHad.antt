@@ -1,13 +1,13 @@
 -- On a board of linked domains each announcement is truthful: the address that it gives a name is one that the name's domain gave an
--- endpoint which it made under the name. So an address that a lookup finds is one that the name had.
-use Rattle.std.proofs.Common.{◌≡◌, inl, inr, ℕ, ◌+◌, ◌≤◌, ◌<◌, ◌^◌, Bool, true, false, cond, List, [], ◌∷◌, ◌++◌, map, find, Option, Some, None, refl, sym, ap, ◌∙◌, subst, arith, append_assoc}
+-- endpoint which it made under the name. So an address that a lookup finds, or that a domain knows, is one that the name had.
+use Rattle.std.proofs.Common.{◌≡◌, inl, inr, ℕ, ◌+◌, ◌≤◌, ◌<◌, ◌^◌, Bool, true, false, cond, List, [], ◌∷◌, ◌++◌, map, find, Option, Some, None, option_map, refl, sym, ap, ◌∙◌, subst, arith, append_assoc}
 use Rattle.std.specs.Prelude.{◌==◌, ◌&&◌, Contains}
 use Rattle.std.specs.List.{AllByRecursion, flat_map}
 use Rattle.std.proofs.lemmas.Bool.{cond_both, eq-eqb, eqb-true, and_parts}
 use Rattle.std.proofs.lemmas.List.Elements.{Contains-append_left, Contains-append_right, Contains-push_cases}
 use Rattle.mc_base.specs.Limits.{first_address, creation_limit, last_domain, last_node}
 use Rattle.mc_base.specs.FullName.{end_name, is_in_range, endpoint_named}
-use Rattle.mc_base.specs.NameMap.{rank}
+use Rattle.mc_base.specs.NameMap.{Names, address_in, has_name, rank}
 use Rattle.mc_base.specs.Reading.{Reading, is_faulty, announces, says, brings, reading}
 use Rattle.mc_base.specs.declared.name.EndName.{EndName}
 use Rattle.mc_base.specs.declared.refusal.Refusal.{Refusal}
@@ -27,11 +27,12 @@ use Rattle.board_model.specs.Traffic.{put_to}
 use Rattle.board_model.specs.Board.{DomainJournal, journal_in, journal_of, IsBoardRun}
 use Rattle.board_model.specs.Deeds.{Deed, looks_back, puts_owed, looks_ahead, takes, calls, happens_by, after_deed, after_deeds, MayDo, AllMayDo, along, EachDeed}
 use Rattle.board_model.specs.JournalDeeds.{deeds_of, opened}
+use Rattle.board_model.specs.Honesty.{KnowsHad}
 use Rattle.board_model.specs.Replied.{announced_by, announced_in, addresses_made, addresses_had, WasHad, Returns, LookupsTellHad}
 use Rattle.board_model.proofs.DeedJoins.{after-join, along-join}
 use Rattle.board_model.proofs.DeedRuns.{puts_by}
 use Rattle.board_model.proofs.ListsApart.{all-map}
-use Rattle.board_model.proofs.MessageAlls.{all-append, all-found, all-weaken}
+use Rattle.board_model.proofs.MessageAlls.{all-append, all-found, all-weaken, found-passes}
 use Rattle.board_model.proofs.WholeHas.{has-gives}
 use Rattle.board_model.proofs.PartReadings.{coming-holds}
 use Rattle.board_model.proofs.PartLetters.{each-frame}
@@ -39,7 +40,7 @@ use Rattle.board_model.proofs.HonestFrames.{Truthful, announcing_truthful, lette
 use Rattle.board_model.proofs.HonestDeeds.{OfTaken, call_puts}
 use Rattle.board_model.proofs.HonestBoard.{OnBoard, each_on_board, moment, taken_so}
 use Rattle.board_model.proofs.KeptSends.{FitsDeed}
-use Rattle.board_model.proofs.RepliedSound.{Settled, IsMade, OwesMade, Said}
+use Rattle.board_model.proofs.RepliedSound.{AllNamed, Settled, IsMade, KnowsSaid, OwesMade, Said}
 use Rattle.board_model.proofs.RepliedDeeds.{there_if, Makes, HearsNamed, said_deed}
 use Rattle.board_model.proofs.RepliedRuns.{said_opening, returns_so}
 
@@ -237,6 +238,34 @@ module _ (s : Scenario) (js : List DomainJournal) (board : IsLinkedBoard s) (run
 
   tells_had : (j : DomainJournal) → On j → LookupsTellHad s js j
   tells_had j on = each_had (opened s j) [] (deeds_of s j) (said_opening Had was_had any_reply j.line.domain j.line.nodes (neighbours s j.line)) on.told.run.may (deeds_make j on) (taken_so s js board run (λ q r. Truthful Had r) put_truthful j on.found on.line on.told on.deeds)
+
+  -- ---- and so is, at each moment, each address that is known of a name
+
+  said_then : (t : DomainState) (before after : List Deed) → Said Had was_had any_reply t → AllMayDo t (before ++ after) → AllMake t (before ++ after) → AllByRecursion (OfTaken (λ q r. Truthful Had r)) (before ++ after) →
+      Said Had was_had any_reply (after_deeds t before)
+  said_then t [] after said may make heard = said
+  said_then t (d ∷ ds) after said may make heard =
+      said_then (after_deed t d) ds after (said_deed Had was_had any_reply (λ n a had. had.there) t said d may.0 make.0 (hears_had t d heard.0) (λ k r has. tt)) may.1 make.1 heard.1
+
+  known_had : (n : EndName) (a : ℕ) (ks : Names) → AllNamed Had was_had any_reply ks → address_in n ks ≡ Some a → was_had (rank n) a
+  known_had n a ks all is = go (find (has_name n) ks) refl is
+    where
+      go : (x : Option (EndName × ℕ)) → find (has_name n) ks ≡ x → option_map (λ (k : EndName × ℕ). k.1) x ≡ Some a → was_had (rank n) a
+      go None found h = absurd cc
+      go (Some k) found h =
+          let same : k.1 ≡ a = cc in
+          let named : rank k.0 ≡ rank n = eqb-true (rank k.0) (rank n) (found-passes (has_name n) ks k found) in
+          subst (was_had (rank n)) same (subst (λ r. was_had r k.1) named (all-found (λ (j : EndName × ℕ). was_had (rank j.0) j.1) (has_name n) ks k all found))
+
+  knows_had : (j : DomainJournal) → On j → KnowsHad s js j
+  knows_had j on before after is q p there n a known =
+      let start = said_opening Had was_had any_reply j.line.domain j.line.nodes (neighbours s j.line) in
+      let heard = taken_so s js board run (λ q r. Truthful Had r) put_truthful j on.found on.line on.told on.deeds in
+      let said = said_then (opened s j) before after start (subst (AllMayDo (opened s j)) is on.told.run.may) (subst (AllMake (opened s j)) is (deeds_make j on)) (subst (AllByRecursion (OfTaken (λ q r. Truthful Had r))) is heard) in
+      known_had n a p.known (all-found (KnowsSaid Had was_had any_reply) (is_numbered q) (after_deeds (opened s j) before).peers p said.names there) known
+
+  pub all_know_had : AllByRecursion (KnowsHad s js) js
+  all_know_had = all-weaken On (KnowsHad s js) knows_had js (each_on_board s js board run)
 
   pub lookups_tell_had : AllByRecursion (LookupsTellHad s js) js
   lookups_tell_had = all-weaken On (LookupsTellHad s js) tells_had js (each_on_board s js board run)

@@ -29,7 +29,8 @@ pub fn letters_are_read_back()
     ensures { LettersAreReadBack }
 {}
 
-/// At each moment, every address that a domain knows for a name of a peer is one that the peer gave to an endpoint of its own.
+/// At each moment, every address that a domain knows for a name of a peer is one that the peer gave to an endpoint of its own, and one that the
+/// name's domain gave to an endpoint which it made under that name.
 pub fn known_addresses_are_real()
     ensures { KnownAddressesAreReal }
 {}
