@@ -9,8 +9,8 @@ use Rattle.board_model.specs.Board.{DomainJournal, IsBoardRun}
 use Rattle.board_model.specs.Places.{EveryBuffer}
 use Rattle.board_model.specs.Headline.{Headline}
 
--- at the end of every run of a board of linked domains, each buffer of each lane is at exactly one place: free, in the ring,
--- queued or lent
+-- at the end of every run of a board of linked domains, the buffers of each lane that are free, in the ring, queued and lent are as many
+-- as it has
 abbrev pub PlaceLaw : Type 0
 PlaceLaw = (s : Scenario) (js : List DomainJournal) → IsLinkedBoard s → IsBoardRun s js → AllByRecursion (EveryBuffer s js) (lanes s)
 

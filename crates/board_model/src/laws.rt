@@ -19,7 +19,7 @@ ghost use Rattle.board_model.specs.RenamedLaws.{CallsHangOnNoName};
 ghost use Rattle.board_model.specs.SerialLaws.{LinkedSerialIsBoardRun};
 ghost use Rattle.board_model.specs.LanguageLaws.{LawfulIsLinked, LawfulSerialIsBoardRun, LawfulSerialHeadline};
 
-/// At the end of every run of a board, each buffer of each lane is at exactly one place.
+/// At the end of every run of a board, the buffers of each lane that are free, in the ring, queued and lent are as many as it has.
 pub fn every_buffer_in_its_place()
     ensures { PlaceLaw }
 {}
