@@ -3,11 +3,12 @@
 use Rattle.std.specs.Prelude.{◌≡◌, ◌<◌, ◌≤◌, ◌^◌, ℕ, Bool, IsTrue, List, None, length}
 use Rattle.mc_base.specs.Announcement.{IsNs, announcement, announcement_faults, is_name}
 use Rattle.mc_base.specs.FaultRow.{first_fault}
+use Rattle.mc_base.specs.Limits.{name_size}
 
 -- the spelling of a lawful name and an address says these, and has no fault
 abbrev pub AnnouncementsReadBack : Type 0
 AnnouncementsReadBack =
-    (name : List ℕ) (addr : ℕ) (create : Bool) → IsTrue (is_name name) → length name ≤ 31 → addr < 2 ^ 32
+    (name : List ℕ) (addr : ℕ) (create : Bool) → IsTrue (is_name name) → length name ≤ name_size → addr < 2 ^ 32
     → IsNs (announcement name addr create) name addr create
     × (first_fault (announcement_faults (announcement name addr create)) ≡ None)
 

@@ -3,6 +3,7 @@
 -- Source: docs/PROFILE.md, "Lanes". What is done is listed without names, as it follows from the state without them.
 use Rattle.std.specs.Prelude.{◌≡◌, ℕ, ◌+◌, ◌^◌, ◌<◌, ◌==◌, List, [], ◌∷◌, ◌++◌, slice_index, Some, if◌then◌else◌}
 use Rattle.std.specs.List.{flat_map}
+use Rattle.mc_base.specs.Limits.{domain_limit}
 use Rattle.board_model.specs.declared.scenario.CallLine.{CallLine}
 use Rattle.board_model.specs.Deeds.{Deed, takes, after_deeds, along}
 use Rattle.board_model.specs.Returns.{names_given}
@@ -45,8 +46,8 @@ AreFew ds = (peer : ℕ) → takes_in peer ds < 2 ^ 32
 
 pub record HasDone (first : DomainState) (ds : List Deed) (t : NamedState) : Type 0 where
   pub state : t.state ≡ after_deeds first (placed [] ds)
-  pub taken : (peer : ℕ) → peer < 8 → slice_index t.taken peer ≡ takes_in peer ds
-  pub given : (peer : ℕ) → peer < 8 → names_for peer t.given ≡ along (names_given peer) first (placed [] ds)
+  pub taken : (peer : ℕ) → peer < domain_limit → slice_index t.taken peer ≡ takes_in peer ds
+  pub given : (peer : ℕ) → peer < domain_limit → names_for peer t.given ≡ along (names_given peer) first (placed [] ds)
 
 -- these deeds are done next
 pub record GoesOn (s t : NamedState) (ds : List Deed) : Type 0 where

@@ -1,7 +1,7 @@
 -- What the lines of a turn tell of each peer, as it is kept while the turn that is due is made.
 use Rattle.std.specs.Prelude.{◌≡◌, ℕ, ◌+◌, ◌^◌, ◌<◌, ◌≤◌, min, nat_le, List, [], ◌∷◌, length, map, get_or, set, sum_by, Option, None, Some, option_map, ◌==◌, if◌then◌else◌}
 use Rattle.std.specs.List.{AllByRecursion, flat_map}
-use Rattle.mc_base.specs.Limits.{turn_limit}
+use Rattle.mc_base.specs.Limits.{domain_limit, turn_limit}
 use denote.Bor.{Bor}
 use Rattle.board_model.specs.Journal.{Line, Visit}
 use Rattle.board_model.specs.Unjoined.{visit_in}
@@ -29,9 +29,9 @@ pub record IsToldPeer (t : ToldPeer) (v : Visit) : Type 0 where
 abbrev pub HasShortLines : ℕ → ToldPeer → Type 0
 HasShortLines size t = AllByRecursion (λ l. length l.now ≤ size) t.takes
 
--- the same of all peers of numbers below 8
+-- the same of all peers of domain numbers
 abbrev pub IsToldTurn : ToldTurn → List Line → Type 0
-IsToldTurn t ls = (n : ℕ) (other : ToldPeer) → n < 8 → IsToldPeer (get_or t.peers n other) (visit_in ls n)
+IsToldTurn t ls = (n : ℕ) (other : ToldPeer) → n < domain_limit → IsToldPeer (get_or t.peers n other) (visit_in ls n)
 
 abbrev pub AreShort : ℕ → ToldTurn → Type 0
 AreShort size t = AllByRecursion (HasShortLines size) t.peers
@@ -61,7 +61,7 @@ pub record IsToldOn (n : ℕ) (ks : List LaneLine) (t : ToldPeer) : Type 0 where
   pub count : t.count ≡ min turn_limit (length (flat_map (frames_in n) ks))
 
 abbrev pub AreToldPeers : List ToldPeer → List LaneLine → Type 0
-AreToldPeers ts ks = (n : ℕ) (other : ToldPeer) → n < 8 → IsToldOn n ks (get_or ts n other)
+AreToldPeers ts ks = (n : ℕ) (other : ToldPeer) → n < domain_limit → IsToldOn n ks (get_or ts n other)
 
 -- with the line of one more take
 abbrev pub with_line : Bor (List ℕ) → ToldPeer → ToldPeer
@@ -85,7 +85,7 @@ pub record GrowsLittle (t u : ToldPeer) : Type 0 where
   pub see : u.see ≤ t.see + 2 ^ 32
 
 abbrev pub HaveRoom : List ToldPeer → Type 0
-HaveRoom ts = (n : ℕ) (other : ToldPeer) → n < 8 → HasRoom (get_or ts n other)
+HaveRoom ts = (n : ℕ) (other : ToldPeer) → n < domain_limit → HasRoom (get_or ts n other)
 
 abbrev pub GrowLittle : List ToldPeer → List ToldPeer → Type 0
-GrowLittle ts us = (n : ℕ) (other : ToldPeer) → n < 8 → GrowsLittle (get_or ts n other) (get_or us n other)
+GrowLittle ts us = (n : ℕ) (other : ToldPeer) → n < domain_limit → GrowsLittle (get_or ts n other) (get_or us n other)

@@ -3,6 +3,7 @@
 -- Source: docs/FORMATS.md, "Report".
 use Rattle.std.specs.Prelude.{◌≡◌, ℕ, ◌+◌, ◌<◌, ◌≤◌, ◌^◌, Bool, true, false, List, [], ◌∷◌, length, bytes_eq, drop, slice_get, slice_index, slice_set, Option, None, Some}
 use Rattle.std.specs.List.{AllByRecursion}
+use Rattle.mc_base.specs.Limits.{domain_limit}
 use Rattle.board_model.specs.declared.scenario.Scenario.{Scenario}
 use Rattle.report_text.specs.declared.link_pass.JournalLines.{JournalLines}
 use Rattle.report_text.specs.declared.link_pass.Left.{Left}
@@ -35,7 +36,7 @@ AreShort room cs = AllByRecursion (IsShort room) cs
 
 -- the numbers are those of the buffers that each domain gives back to each other
 abbrev pub GiveBack : Scenario → List JournalText → List (List ℕ) → Type 0
-GiveBack s js given = (from to : ℕ) (row : List ℕ) → slice_get given from ≡ Some row → to < 8 → slice_index row to ≡ gives_back s js from to
+GiveBack s js given = (from to : ℕ) (row : List ℕ) → slice_get given from ≡ Some row → to < domain_limit → slice_index row to ≡ gives_back s js from to
 
 -- the frames to a domain that are left
 abbrev pub left_of : ℕ → Left → List (List ℕ)
@@ -84,12 +85,12 @@ pub record IsLeft (s : Scenario) (js : List JournalText) (to : ℕ) (before : Li
 -- of all lanes, by the peers' numbers. Of a peer that has none nothing was told
 pub record AreLeft (s : Scenario) (js : List JournalText) (to : ℕ) (before : List LaneLine) (ls : List Left) : Type 0 where
   pub each : (from : ℕ) (l : Left) → slice_get ls from ≡ Some l → IsLeft s js to before from l
-  pub none_taken : (from : ℕ) → 8 ≤ from → taken_before from before ≡ 0
-  pub none_back : (from : ℕ) → 8 ≤ from → back_before from before ≡ 0
+  pub none_taken : (from : ℕ) → domain_limit ≤ from → taken_before from before ≡ 0
+  pub none_back : (from : ℕ) → domain_limit ≤ from → back_before from before ≡ 0
 
 -- the board has no domain with a greater number than 7
 abbrev pub HasFew : List JournalText → Type 0
-HasFew js = AllByRecursion (λ j. j.line.domain < 8) js
+HasFew js = AllByRecursion (λ j. j.line.domain < domain_limit) js
 
 -- no line in the text is longer, and the puts are counted
 pub record IsReady (room to : ℕ) (l : Left) : Type 0 where

@@ -3,6 +3,7 @@
 -- with a length of 0.
 use Rattle.std.specs.Prelude.{◌≡◌, ℕ, ◌≤◌, ◌%◌, List, length, Ok}
 use Rattle.std.specs.List.{All}
+use Rattle.mc_base.specs.Limits.{ring_limit}
 use Rattle.shared_words.specs.Entry.{Entry}
 use Rattle.shared_words.specs.Shown.{TableShown}
 use Rattle.split_ring.specs.Ends.{End}
@@ -31,4 +32,4 @@ FinishedImagesAreSound =
 abbrev pub FinishedImagesAreShort : Type 0
 FinishedImagesAreShort =
     (ring : TableShown) (driver device : End) (closed : FinishedRing) → IsFinished ring driver device closed
-    → length (word_image closed.size closed.words) ≤ image_length 256
+    → length (word_image closed.size closed.words) ≤ image_length ring_limit
