@@ -45,7 +45,7 @@ use Rattle.report_check.specs.NextParts.{parts_from, texts_from}
 use Rattle.report_check.specs.PartsWalked.{IsBegun, Way, end_of, entries_of, wrong_on}
 use Rattle.report_check.specs.Runs.{IsAt, Makes, begun, script_of}
 use Rattle.report_check.specs.Walked.{IsInOrder, journal_read}
-use Rattle.report_rings.specs.SenderLanes.{GivesBack}
+use Rattle.report_totals.specs.SenderLanes.{GivesBack}
 use Rattle.report_check.specs.declared.run.Run.{Run}
 
 -- the way that a domain begins

@@ -33,7 +33,7 @@ use Rattle.report_check.specs.declared.steps.Walked.TheVariants as walked
 use Rattle.report_check.specs.declared.walks.Walks.{Walks}
 use Rattle.report_totals.specs.EndedJournals.{AreLeftBehind}
 use Rattle.report_check.specs.Walked.{IsInOrder, IsWalked}
-use Rattle.report_rings.specs.SenderLanes.{AreGiven, GivesBack}
+use Rattle.report_totals.specs.SenderLanes.{AreGiven, GivesBack}
 use Rattle.report_check.specs.Walks.{left_of, AreWalked, AreRight, WalksOn}
 
 -- ---- the lines of a journal, and those behind it

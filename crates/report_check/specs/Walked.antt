@@ -17,7 +17,7 @@ use Rattle.report_text.specs.TextPass.{puts_of_script}
 use Rattle.report_text.specs.TextLines.{lines_in}
 use Rattle.report_text.specs.Texts.{lines_behind}
 use Rattle.report_text.specs.ScenarioPart.{rest}
-use Rattle.report_rings.specs.SenderLanes.{GivesBack}
+use Rattle.report_totals.specs.SenderLanes.{GivesBack}
 use Rattle.report_check.specs.declared.steps.Walked.{Walked}
 use Rattle.report_check.specs.declared.steps.Walked.TheVariants as walked
 

@@ -2,6 +2,7 @@
 -- Source: docs/FORMATS.md, "How a report is checked".
 use Rattle.std.specs.Prelude.{◌≡◌, ℕ, ◌+◌, ◌-◌, ◌^◌, ◌<◌, ◌≤◌, List, ◌++◌, length, Option, None, Some, Ok}
 use Rattle.std.specs.List.{AllByRecursion}
+use Rattle.mc_base.specs.Limits.{domain_limit}
 use Rattle.board_model.specs.declared.scenario.DomainLine.{DomainLine}
 use Rattle.board_model.specs.declared.scenario.Scenario.{Scenario}
 use Rattle.board_model.specs.Scenario.{rising}
@@ -18,7 +19,7 @@ use Rattle.report_text.specs.TextRead.{told_of}
 use Rattle.report_text.specs.Texts.{longest_line}
 use Rattle.report_text.specs.TotalPass.{wrong_total}
 use Rattle.report_text.specs.Verdicts.{by_steps}
-use Rattle.report_rings.specs.SenderLanes.{AreGiven}
+use Rattle.report_totals.specs.SenderLanes.{AreGiven}
 use Rattle.report_check.specs.declared.walks.Walks.{Walks}
 use Rattle.report_totals.specs.EndedJournals.{AreLeftBehind}
 
@@ -34,7 +35,7 @@ pub record AreWalked (s : Scenario) (js : List JournalText) (w : Walks) : Type 0
 
 -- their domains are those of a board, and none of their lines is longer than this, and these can be counted
 pub record AreReady (room most : ℕ) (w : Walks) : Type 0 where
-  pub domains : AllByRecursion (λ c. c.domain < 8) w.journals.items
+  pub domains : AllByRecursion (λ c. c.domain < domain_limit) w.journals.items
   pub short : AreShort room w.journals.items
   pub line : longest_line w.behind.now ≤ room
   pub count : w.line + length w.behind.now ≤ most

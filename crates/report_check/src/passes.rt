@@ -11,19 +11,18 @@ ghost use Rattle.report_text.specs.TotalPass.{rings_due, wrong_ring_back};
 ghost use Rattle.report_text.specs.Verdicts.{by_told, verdict_on};
 ghost use Rattle.report_totals.specs.PassedReports.{IsPassed};
 ghost use Rattle.report_totals.specs.WholeLines.{AreWholeLines};
-ghost use Rattle.report_rings.specs.ToldRings.{texts_of};
+ghost use Rattle.report_totals.specs.ToldRings.{texts_of};
 ghost use Rattle.report_check.specs.Walks.{AreAllWalked, AreReady, IsTextOf, wrong_link_of, wrong_total_of};
 
 use crate::given::note_given;
 use crate::walks::Walks;
 use board_model::Scenario;
 use mc_base::NoMemory;
-use report_rings::ring_lines;
 use report_text::{
     CheckReason, Mode, ReportText, TextFault, Verdict, lanes_of, longest_line, read_text,
     rising_domains, wrong_lanes,
 };
-use report_totals::{NumbersText, wrong_number};
+use report_totals::{NumbersText, ring_lines, wrong_number};
 use std::alloc::Global;
 
 /// Checks a report that comes from elsewhere: whether it is the report of a whole run of the board that it names, in which every message and

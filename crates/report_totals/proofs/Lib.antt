@@ -5,3 +5,13 @@ pub mod FewMessages
 pub mod ReportRuns
 pub mod TalliesTold
 pub mod HeldUnnamed
+pub mod BuffersBelow
+pub mod BuffersFound
+pub mod FramesShort
+pub mod LaneSizes
+pub mod LaneSteps
+pub mod PassedRuns
+pub mod PlacesTold
+pub mod RingLines
+pub mod SendingsTold
+pub mod WalkLemmas

@@ -4,3 +4,7 @@ pub mod SmallRuns
 pub mod JournalTallies
 pub mod PassedReports
 pub mod WholeLines
+pub mod ToldRings
+pub mod SenderLanes
+pub mod LaneWalks
+pub mod ReadJournals

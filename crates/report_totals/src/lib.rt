@@ -1,4 +1,5 @@
-//! The fourth pass over a report: whether its lines of numbers are those that its journals come to.
+//! The fourth pass over a report: whether its lines behind the journals are those that the journals come to, and of a run on threads whether each
+//! buffer came back only after its frame was put.
 #![tactic(auto)]
 
 mod counting;
@@ -7,8 +8,9 @@ mod due_text;
 mod ended_journal;
 mod held;
 mod pass;
+mod rings;
 mod tallies;
 mod text_sink;
 
 pub use pass::{NumbersText, wrong_number};
-pub use text_sink::TextSink;
+pub use rings::ring_lines;

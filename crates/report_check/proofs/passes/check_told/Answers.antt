@@ -14,7 +14,7 @@ use Rattle.report_text.proofs.RunsTold.{rising-lawful}
 use Rattle.report_totals.specs.EndedJournals.{AreLeftBehind}
 use Rattle.report_check.specs.declared.walks.Walks.{Walks}
 use Rattle.report_check.specs.Walks.{WalksOn}
-use Rattle.report_rings.specs.SenderLanes.{AreGiven}
+use Rattle.report_totals.specs.SenderLanes.{AreGiven}
 use Rattle.report_check.proofs.passes.check_told.Goals as goal
 
 pub walk_on-requires-clause-lawful : goal.walk_on-requires-clause-lawful

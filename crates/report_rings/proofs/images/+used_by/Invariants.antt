@@ -1,5 +1,0 @@
-use Rattle.std.proofs.Common.{length}
-use Rattle.report_rings.proofs.images.+used_by.Given as goal
-
-abbrev pub decreases-used_by : goal.decreases-used_by
-decreases-used_by l = length l.walked.now

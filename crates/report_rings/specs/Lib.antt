@@ -1,4 +1,0 @@
-pub mod ToldRings
-pub mod SenderLanes
-pub mod LaneWalks
-pub mod ReadJournals
