@@ -1,6 +1,6 @@
 -- What events need of others: a frame is put before it is taken, and a buffer is given back before it comes back.
 -- Source: docs/FORMATS.md, "Journal text".
-use Rattle.std.specs.Prelude.{◌≤◌, ◌<◌, ◌==◌, ℕ, List, if◌then◌else◌, sum_by, take}
+use Rattle.std.specs.Prelude.{◌≤◌, ◌<◌, ◌+◌, ◌==◌, ℕ, List, if◌then◌else◌, sum_by, take}
 use Rattle.mc_base.specs.Limits.{domain_limit}
 use Rattle.event_order.specs.declared.event.Event.{Event}
 use Rattle.event_order.specs.declared.event.What.{What}
@@ -39,8 +39,20 @@ lost Buffers l e = if e.domain == l.sender then back_from l.receiver e.what else
 abbrev pub IsBacked : Cause → Lane → List Event → Type 0
 IsBacked c l es = (k : ℕ) → sum_by (lost c l) (take k es) ≤ sum_by (gained c l) (take k es)
 
+-- with the event at this place, more was taken off a lane than was added
+abbrev pub IsOverdrawn : Cause → Lane → List Event → ℕ → Type 0
+IsOverdrawn c l es p = sum_by (gained c l) (take (p + 1) es) < sum_by (lost c l) (take (p + 1) es)
+
 abbrev pub AreBackedFrom : Cause → ℕ → List Event → Type 0
 AreBackedFrom c p es = (q : ℕ) → q < domain_limit → IsBacked c (record { sender = p; receiver = q }) es
 
 abbrev pub AreBacked : Cause → List Event → Type 0
 AreBacked c es = (p : ℕ) → p < domain_limit → AreBackedFrom c p es
+
+-- with the event at this place, more was taken off some lane than was added
+pub record IsUnbacked (c : Cause) (es : List Event) (p : ℕ) : Type 0 where
+  pub sender : ℕ
+  pub receiver : ℕ
+  pub is_sender : sender < domain_limit
+  pub is_receiver : receiver < domain_limit
+  pub overdrawn : IsOverdrawn c (record { sender = sender; receiver = receiver }) es p

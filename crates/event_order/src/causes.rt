@@ -1,7 +1,7 @@
 //! What events need of others: a frame that is taken was put, and a buffer that comes back was given back.
 
-ghost use Rattle.std.specs.Prelude.{◌≡◌, true};
-ghost use Rattle.event_order.specs.Causes.{IsBacked, back_from, gained as gained_by, given_to, lost as lost_by, put_to, taken_from};
+ghost use Rattle.std.specs.Prelude.{◌≡◌, ◌<◌, IfSome, None, length};
+ghost use Rattle.event_order.specs.Causes.{IsBacked, IsOverdrawn, back_from, gained as gained_by, given_to, lost as lost_by, put_to, taken_from};
 
 use crate::event::{Event, What};
 
@@ -91,19 +91,20 @@ pub fn lost(cause: Cause, lane: Lane, event: &Event) -> u32
     }
 }
 
-/// Whether nothing is taken off a lane before it was added.
-pub fn is_backed(cause: Cause, lane: Lane, events: &[Event]) -> bool
-    ensures { result ≡ true → IsBacked cause lane events.now }
+/// The place of the first event that takes something off a lane before it was added.
+pub fn first_unbacked(cause: Cause, lane: Lane, events: &[Event]) -> Option<usize>
+    ensures none { result ≡ None → IsBacked cause lane events.now }
+    ensures some { IfSome result (λ p. (p < length events.now) × IsOverdrawn cause lane events.now p) }
 {
-    let mut left: u64 = 0;
+    let mut left: u128 = 0;
+    let mut place = 0;
     for event in events {
-        let Some(more) = left.checked_add(u64::from(gained(cause, lane, event))) else {
-            return false;
-        };
-        let Some(less) = more.checked_sub(u64::from(lost(cause, lane, event))) else {
-            return false;
+        let more = left + u128::from(gained(cause, lane, event));
+        let Some(less) = more.checked_sub(u128::from(lost(cause, lane, event))) else {
+            return Some(place);
         };
         left = less;
+        place += 1;
     }
-    true
+    None
 }

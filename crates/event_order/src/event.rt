@@ -15,8 +15,6 @@ pub enum What {
     Again,
     /// A call was answered.
     Answer { call: u32, refused: bool },
-    /// The journal ended, behind its last event.
-    End,
 }
 
 /// Something that a report says of a domain.

@@ -1,3 +1,6 @@
+ghost use Rattle.std.specs.Prelude.{◌≡◌};
+ghost use Rattle.event_order.specs.declared.fault.OrderFault.TheVariants as order_fault;
+
 use mc_base::NoMemory;
 use thiserror::Error;
 
@@ -13,6 +16,8 @@ pub enum OrderFault {
 }
 
 impl From<NoMemory> for OrderFault {
+    ghost from_gives = { λ _ fault. fault ≡ order_fault.NoMemory };
+
     fn from(_: NoMemory) -> OrderFault {
         OrderFault::NoMemory
     }

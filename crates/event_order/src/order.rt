@@ -1,17 +1,17 @@
 //! The one order of events.
 
-ghost use Rattle.std.specs.Prelude.{◌≡◌, ◌<◌, ℕ, IfOk, OnOk, true};
+ghost use Rattle.std.specs.Prelude.{◌≡◌, ◌⊎◌, ◌<◌, ℕ, IfErr, IfOk, IfSome, None, OnOk, Some, length, true};
 ghost use Rattle.std.specs.List.Sorted.{IsPermutation};
-ghost use Rattle.event_order.specs.Causes.{AreBacked, AreBackedFrom};
-ghost use Rattle.event_order.specs.OwnOrder.{AllRise};
+ghost use Rattle.event_order.specs.Causes.{AreBacked, AreBackedFrom, IsUnbacked};
+ghost use Rattle.event_order.specs.Orders.{LacksCause, StandsEarly, TellsLine};
+ghost use Rattle.event_order.specs.OwnOrder.{AllRise, Falls, in_turn};
 ghost use Rattle.event_order.specs.declared.causes.Cause.TheVariants.{Buffers, Frames};
 
-use crate::causes::{Cause, Lane, is_backed};
+use crate::causes::{Cause, Lane, first_unbacked};
 use crate::event::Event;
 use crate::fault::OrderFault;
-use crate::own_order::are_in_order;
+use crate::own_order::{first_falling, first_out_of_turn};
 use crate::schedule::steps_of;
-use mc_base::NoMemory;
 use std::alloc::Global;
 
 /// The step at which an event is due.
@@ -22,40 +22,74 @@ fn step_of(steps: &[u32], event: &Event) -> u32 {
         .unwrap_or(u32::MAX)
 }
 
-/// Whether nothing is taken off the lanes of a sender before it was added.
-fn are_backed_from(cause: Cause, sender: u8, events: &[Event]) -> bool
-    ensures { result ≡ true → AreBackedFrom cause sender events.now }
+/// The earlier of two places.
+fn earlier(one: Option<usize>, other: Option<usize>) -> Option<usize>
+    ensures none { result ≡ None → (one ≡ None) × (other ≡ None) }
+    ensures some { IfSome result (λ p. (one ≡ Some p) ⊎ (other ≡ Some p)) }
 {
+    match (one, other) {
+        (Some(p), Some(q)) => Some(if p < q { p } else { q }),
+        (Some(p), None) => Some(p),
+        (None, found) => found,
+    }
+}
+
+/// A place at which something is taken off a lane of this sender before it was added.
+fn unbacked_from(cause: Cause, sender: u8, events: &[Event]) -> Option<usize>
+    requires { sender < 8 }
+    ensures none { result ≡ None → AreBackedFrom cause sender events.now }
+    ensures some { IfSome result (λ p. (p < length events.now) × IsUnbacked cause events.now p) }
+{
+    let mut found = None;
     for receiver in 0..8 {
-        if !is_backed(cause, Lane { sender, receiver }, events) {
-            return false;
-        }
+        let lane = Lane { sender, receiver };
+        found = earlier(found, first_unbacked(cause, lane, events));
     }
-    true
+    found
 }
 
-/// Whether nothing is taken off any lane before it was added.
-fn are_backed(cause: Cause, events: &[Event]) -> bool
-    ensures { result ≡ true → AreBacked cause events.now }
+/// A place at which something is taken off a lane before it was added.
+fn unbacked(cause: Cause, events: &[Event]) -> Option<usize>
+    ensures none { result ≡ None → AreBacked cause events.now }
+    ensures some { IfSome result (λ p. (p < length events.now) × IsUnbacked cause events.now p) }
 {
+    let mut found = None;
     for sender in 0..8 {
-        if !are_backed_from(cause, sender, events) {
-            return false;
-        }
+        found = earlier(found, unbacked_from(cause, sender, events));
     }
-    true
+    found
 }
 
-/// Whether the events of each domain stand in their own order.
-fn all_in_order(events: &[Event]) -> bool
-    ensures { result ≡ true → AllRise events.now }
+/// A place at which the numbers of a domain's events do not rise.
+fn falling(events: &[Event]) -> Option<usize>
+    ensures none { result ≡ None → AllRise events.now }
+    ensures some { IfSome result (λ p. (p < length events.now) × Falls events.now p) }
 {
+    let mut found = None;
     for domain in 0..8 {
-        if !are_in_order(domain, events) {
-            return false;
-        }
+        found = earlier(found, first_falling(domain, events));
     }
-    true
+    found
+}
+
+/// The line of an event that stands before one on which it depends.
+fn line_without_cause(events: &[Event], by_lines: bool) -> Option<u32>
+    ensures own { result ≡ None → AllRise events.now }
+    ensures frames { result ≡ None → AreBacked Frames events.now }
+    ensures buffers { result ≡ None → AreBacked Buffers events.now }
+    ensures lines { result ≡ None → by_lines ≡ true → in_turn 0 events.now ≡ true }
+    ensures some { IfSome result (LacksCause by_lines events.now) }
+{
+    let own = falling(events);
+    let frames = unbacked(Cause::Frames, events);
+    let buffers = unbacked(Cause::Buffers, events);
+    let lines = if by_lines {
+        first_out_of_turn(events)
+    } else {
+        None
+    };
+    let place = earlier(earlier(own, lines), earlier(frames, buffers))?;
+    Some(events[place].line)
 }
 
 /// Orders the events of a report, which stand domain by domain, each domain's in their order, and are numbered by their places. Where
@@ -63,7 +97,8 @@ fn all_in_order(events: &[Event]) -> bool
 ///
 /// # Errors
 ///
-/// `NoCause` where there is no such order; the events stand in any order then. `NoMemory` where an allocation fails.
+/// `NoCause` where no such order is found, with the line of an event that stands before one on which it depends in the order in which they are
+/// left. `NoMemory` where an allocation fails.
 pub fn order_events(
     alloc: Global,
     events: &mut Vec<Event>,
@@ -73,14 +108,13 @@ pub fn order_events(
     ensures own { OnOk result (AllRise events.new.items) }
     ensures frames { OnOk result (AreBacked Frames events.new.items) }
     ensures buffers { OnOk result (AreBacked Buffers events.new.items) }
+    ensures lines { OnOk result (by_lines ≡ true → in_turn 0 events.new.items ≡ true) }
+    ensures no_cause { IfErr result (TellsLine by_lines events.new.items) }
 {
     let steps = steps_of(alloc, events, by_lines)?;
     events.sort_unstable_by_key(|event| step_of(&steps, event));
-    if !all_in_order(events)
-        || !are_backed(Cause::Frames, events)
-        || !are_backed(Cause::Buffers, events)
-    {
-        return Err(OrderFault::NoCause { line: 0 });
+    match line_without_cause(events, by_lines) {
+        Some(line) => Err(OrderFault::NoCause { line }),
+        None => Ok(()),
     }
-    Ok(())
 }

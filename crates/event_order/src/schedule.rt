@@ -3,7 +3,6 @@
 ghost use Rattle.std.specs.Prelude.{◌<◌, IfSome};
 
 use crate::event::{Event, What};
-use crate::fault::OrderFault;
 use mc_base::NoMemory;
 use std::alloc::Global;
 
@@ -113,7 +112,8 @@ impl Schedule<'_> {
         }
     }
 
-    /// The domain whose event comes next: of those whose next event is ready, the one whose call is due, or else the one that did least.
+    /// The domain whose event comes next: of those whose next event is ready, the one whose call is due, or else the one that did least. Where none is
+    /// ready, the first that has an event left.
     fn next_domain(&self) -> Option<usize>
         ensures { IfSome result (λ d. d < 8) }
     {
@@ -128,7 +128,10 @@ impl Schedule<'_> {
                 }
             }
         }
-        best
+        match best {
+            Some(domain) => Some(domain),
+            None => self.first_left(),
+        }
     }
 
     /// Notes that the next event of a domain happens.
@@ -171,25 +174,23 @@ impl Schedule<'_> {
         }
     }
 
-    /// The line of the first event that is left.
-    fn first_left(&self) -> u32 {
-        for domain in 0..8 {
-            if let Some(event) = self.next_of(domain) {
-                return event.line;
-            }
-        }
-        0
+    /// The first domain that has an event left.
+    fn first_left(&self) -> Option<usize>
+        ensures { IfSome result (λ d. d < 8) }
+    {
+        (0..8).find(|domain| self.next_of(*domain).is_some())
     }
 }
 
-/// Returns at which step each event is due, by its place. Where `by_lines` says so, calls are answered in the scenario's order.
+/// Returns at which step each event is due, by its place. Where `by_lines` says so, calls are answered in the scenario's order. Where all events that
+/// are left wait for others, the first domain goes on that has one, so its event stands before what it waits for.
 ///
 /// # Errors
 ///
-/// `NoCause` where an event waits for one that never comes, `NoMemory` where an allocation fails.
-pub fn steps_of(alloc: Global, events: &[Event], by_lines: bool) -> Result<Vec<u32>, OrderFault> {
+/// `NoMemory` where an allocation fails.
+pub fn steps_of(alloc: Global, events: &[Event], by_lines: bool) -> Result<Vec<u32>, NoMemory> {
     let Ok(mut steps) = vec![in alloc; 0u32; events.len()] else {
-        return Err(OrderFault::NoMemory);
+        return Err(NoMemory);
     };
     let mut schedule = Schedule {
         events,
@@ -203,13 +204,11 @@ pub fn steps_of(alloc: Global, events: &[Event], by_lines: bool) -> Result<Vec<u
     }
     for step in 0..events.len() {
         let Some(domain) = schedule.next_domain() else {
-            return Err(OrderFault::NoCause {
-                line: schedule.first_left(),
-            });
+            break;
         };
         let place = schedule.scripts[domain].next;
         let Some(event) = schedule.next_of(domain) else {
-            return Err(OrderFault::NoCause { line: 0 });
+            break;
         };
         if let Some(found) = steps.get_mut(place) {
             *found = u32::try_from(step).unwrap_or(u32::MAX);

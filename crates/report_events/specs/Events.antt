@@ -4,9 +4,12 @@ use Rattle.std.specs.Prelude.{ℕ, ◌≡◌, List, [], ◌∷◌, map, Option, 
 use Rattle.std.specs.List.{flat_map}
 use Rattle.std.specs.List.Sorted.{IsPermutation}
 use Rattle.board_model.specs.Journal.{Line, put_line, take_line, back_line, wait_line, again_line, spin_line, call_line}
+use Rattle.event_order.specs.Causes.{AreBacked}
+use Rattle.event_order.specs.OwnOrder.{AllRise}
+use Rattle.event_order.specs.declared.causes.Cause.TheVariants.{Buffers, Frames}
 use Rattle.event_order.specs.declared.event.Event.{Event}
 use Rattle.event_order.specs.declared.event.What.{What}
-use Rattle.event_order.specs.declared.event.What.TheVariants.{Put, Take, Give, Back, Wait, Again, Answer, End}
+use Rattle.event_order.specs.declared.event.What.TheVariants.{Put, Take, Give, Back, Wait, Again, Answer}
 use Rattle.report_text.specs.CountedLines.{lines_counted}
 use Rattle.report_view.specs.declared.view.DomainView.{DomainView}
 
@@ -39,7 +42,6 @@ happening_of_what (Back peer n) = has_back peer n ∷ []
 happening_of_what (Wait call) = waits ∷ []
 happening_of_what Again = retries ∷ []
 happening_of_what (Answer call refused) = answers ∷ []
-happening_of_what End = []
 
 -- what happened, with its domain
 pub record DomainHappening : Type 0 where
@@ -74,3 +76,10 @@ pub record AreAllEvents (domains : List DomainView) (events : List Event) : Type
   pub listed : List Event
   pub each : flat_map event_happenings listed ≡ flat_map domain_happenings domains
   pub once : IsPermutation listed events
+
+-- the events of these domains, each once, in an order in which causes come first
+pub record AreInOrder (domains : List DomainView) (events : List Event) : Type 0 where
+  pub all : AreAllEvents domains events
+  pub own : AllRise events
+  pub frames : AreBacked Frames events
+  pub buffers : AreBacked Buffers events

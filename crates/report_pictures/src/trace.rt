@@ -104,7 +104,11 @@ fn put_arrow<K: Sink>(out: &mut Writer<'_, K>, phase: Phase, at: Moment, lane: L
         number(Name::Time, at.time.saturating_add(MIDDLE)),
         words(Name::Binding, b"e"),
     ];
-    put_object(out, phase, None, &members, &[]);
+    // Only an end has a binding point: it ends on what encloses it.
+    match phase {
+        Phase::FlowFinish => put_object(out, phase, None, &members, &[]),
+        _ => put_object(out, phase, None, &members[..6], &[]),
+    }
 }
 
 /// Puts where the buffers of a lane are.
@@ -229,7 +233,6 @@ fn put_event<K: Sink>(
         What::Back { peer, count } => put_return(out, at, count, b" back from ", peer),
         What::Wait { .. } => put_moment(out, at, b"wait", &[]),
         What::Again => put_again(out, at, last_word(text)),
-        What::End => put_moment(out, at, b"end", &[]),
         What::Answer { refused, .. } => {
             let line = subject.script_line(at.event.domain, number_in(text, room));
             let begin = begun.unwrap_or(at.time);

@@ -4,13 +4,12 @@ use Rattle.std.specs.Prelude.{ℕ, ◌-◌, List, [], ◌∷◌, Bool, true, fal
 use Rattle.std.specs.List.{flat_map}
 use Rattle.event_order.specs.declared.event.Event.{Event}
 use Rattle.event_order.specs.declared.event.What.{What}
-use Rattle.event_order.specs.declared.event.What.TheVariants.{Give, Back, End}
+use Rattle.event_order.specs.declared.event.What.TheVariants.{Give, Back}
 
--- all but buffers that are given back or come back, and ends of journals
+-- all but buffers that are given back or come back
 abbrev pub is_drawn : What → Bool
 is_drawn (Give peer n) = false
 is_drawn (Back peer n) = false
-is_drawn End = false
 is_drawn other = true
 
 abbrev pub line_drawn : Event → List ℕ

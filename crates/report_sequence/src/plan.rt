@@ -93,7 +93,7 @@ fn row_of(row: u32, event: &Event, next: Option<&Event>, kind: FrameKind, folds:
 /// Whether an event has a row to itself. Puts of calls and announcements that are folded are drawn in the row of the next event.
 fn has_row(event: &Event, row: Row) -> bool {
     match event.what {
-        What::Give { .. } | What::Back { .. } | What::End => false,
+        What::Give { .. } | What::Back { .. } => false,
         What::Put { .. } | What::Take { .. } => row.has_words,
         _ => true,
     }

@@ -202,7 +202,7 @@ fn put_event<K: Sink>(
             let words = call_words(line.text, answer_in(text));
             put_call(out, sheet, at, event, words.as_slice(), refused);
         }
-        What::Give { .. } | What::Back { .. } | What::End => (),
+        What::Give { .. } | What::Back { .. } => (),
     }
 }
 
