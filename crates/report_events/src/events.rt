@@ -3,13 +3,10 @@
 ghost use Rattle.std.specs.Prelude.{◌≡◌, ◌≤◌, ◌++◌, ℕ, IfOk, OnOk, length};
 ghost use Rattle.std.specs.List.{AllByRecursion, flat_map};
 ghost use Rattle.board_model.proofs.StateEnds.{Ends};
-ghost use Rattle.event_order.specs.Causes.{AreBacked};
-ghost use Rattle.event_order.specs.OwnOrder.{AllRise};
-ghost use Rattle.event_order.specs.declared.causes.Cause.TheVariants.{Buffers, Frames};
 ghost use Rattle.mc_journal.specs.Entry.{line_of_entry};
 ghost use Rattle.report_text.specs.CountedLines.{counted_line};
 ghost use Rattle.report_view.specs.Rooms.{FitsIn};
-ghost use Rattle.report_events.specs.Events.{AreAllEvents, domain_happenings, event_happenings, line_happenings, said_happenings, what_happenings};
+ghost use Rattle.report_events.specs.Events.{AreInOrder, domain_happenings, event_happenings, line_happenings, said_happenings, what_happenings};
 
 use crate::fault::EventFault;
 use crate::replay::Replay;
@@ -245,10 +242,7 @@ fn events_listed(alloc: Global, report: &[u8], view: &View<'_>) -> Result<Vec<Ev
 ///
 /// `NoCause` where a frame is taken that was not put, or a buffer came back that was not given back. `NoMemory` where an allocation fails.
 pub fn events_of(alloc: Global, report: &[u8], view: &View<'_>) -> Result<Vec<Event>, EventFault>
-    ensures all { IfOk result (λ es. AreAllEvents view.now.domains.items es.items) }
-    ensures own { IfOk result (λ es. AllRise es.items) }
-    ensures frames { IfOk result (λ es. AreBacked Frames es.items) }
-    ensures buffers { IfOk result (λ es. AreBacked Buffers es.items) }
+    ensures { IfOk result (λ es. AreInOrder view.now.domains.items es.items) }
 {
     let mut events = events_listed(alloc, report, view)?;
     order_events(alloc, &mut events, matches!(view.told.mode, Mode::Serial))?;
