@@ -57,12 +57,16 @@ impl Caption {
         let _written = writer.finish();
     }
 
-    /// Puts two dots in the place of the last two bytes.
+    /// Puts two dots in the place of the last two bytes, or as many as fit.
     fn cut(&mut self) {
         for _dot in 0..2 {
             let _last = self.bytes.pop();
         }
-        let _room = self.bytes.try_extend_from_slice(b"..");
+        for _dot in 0..2 {
+            if self.bytes.len() < self.limit {
+                let _room = self.bytes.try_push(b'.');
+            }
+        }
     }
 
     pub fn as_slice(&self) -> &[u8] {

@@ -46,6 +46,19 @@ pub fn put_page<K: Sink>(out: &mut Writer<'_, K>, width: u32, height: u32)
     );
 }
 
+/// Puts an element without a text.
+fn put_mark<K: Sink>(
+    out: &mut Writer<'_, K>,
+    tag: Tag,
+    look: Look,
+    line: Option<u32>,
+    numbers: &[Number],
+)
+    ensures { PutsElements K.Sink out.old out.new (option_to_list line) }
+{
+    put_element(out, Shape { tag, look, line }, numbers, b"");
+}
+
 /// Where a rectangle lies.
 #[derive(Clone, Copy)]
 pub struct Area {
@@ -59,18 +72,13 @@ pub struct Area {
 pub fn put_rect<K: Sink>(out: &mut Writer<'_, K>, look: Look, line: Option<u32>, area: Area)
     ensures { PutsElements K.Sink out.old out.new (option_to_list line) }
 {
-    let shape = Shape {
-        tag: Tag::Rect,
-        look,
-        line,
-    };
     let numbers = [
         number(Key::X, area.x),
         number(Key::Y, area.y),
         number(Key::Width, area.width),
         number(Key::Height, area.height),
     ];
-    put_element(out, shape, &numbers, b"");
+    put_mark(out, Tag::Rect, look, line, &numbers);
 }
 
 /// A point of a picture.
@@ -113,18 +121,13 @@ pub fn put_line<K: Sink>(
 )
     ensures { PutsElements K.Sink out.old out.new (option_to_list line) }
 {
-    let shape = Shape {
-        tag: Tag::Line,
-        look,
-        line,
-    };
     let numbers = [
         number(Key::FromX, from.x),
         number(Key::FromY, from.y),
         number(Key::ToX, to.x),
         number(Key::ToY, to.y),
     ];
-    put_element(out, shape, &numbers, b"");
+    put_mark(out, Tag::Line, look, line, &numbers);
 }
 
 /// Puts a circle round a point.
@@ -137,15 +140,10 @@ pub fn put_circle<K: Sink>(
 )
     ensures { PutsElements K.Sink out.old out.new (option_to_list line) }
 {
-    let shape = Shape {
-        tag: Tag::Circle,
-        look,
-        line,
-    };
     let numbers = [
         number(Key::Cx, at.x),
         number(Key::Cy, at.y),
         number(Key::Radius, radius),
     ];
-    put_element(out, shape, &numbers, b"");
+    put_mark(out, Tag::Circle, look, line, &numbers);
 }
