@@ -9,10 +9,13 @@ use std::alloc::Global;
 
 /// The place of the next put on a lane, from a place on.
 fn next_put(events: &[Event], from: u32, lane: usize) -> Option<u32> {
-    for (place, event) in events.iter().enumerate().skip(from as usize) {
+    let (_, rest) = events.split_at(events.len().min(from as usize));
+    let mut place = from;
+    for event in rest {
         if matches!(event.what, What::Put { .. }) && lane_number(event) == Some(lane) {
-            return u32::try_from(place).ok();
+            return Some(place);
         }
+        place = place.saturating_add(1);
     }
     None
 }
