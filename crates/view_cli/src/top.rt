@@ -70,7 +70,7 @@ pub fn mcview<S: Source, F: Source, K: Sink>(
     ensures file_unread { (form_asked (words_of words.now) ≡ Some Expect → ⊥) → file.new ≡ file.old }
 
     // The words of a picture: it was drawn of what the journals say, each line once, in an order in which causes come first.
-    ensures sequence { form_asked (words_of words.now) ≡ Some Sequence → result ≡ 0 → IfSome (S.rest input.old) (λ report. ShowsPicture sequenced report (K.written output.old) (K.written output.new)) }
+    ensures sequence { form_asked (words_of words.now) ≡ Some Sequence → result ≡ 0 → IfSome (asked_by (words_of words.now)) (λ asked. IfSome (S.rest input.old) (λ report. ShowsPicture (sequenced asked) report (K.written output.old) (K.written output.new))) }
     ensures lanes { form_asked (words_of words.now) ≡ Some Lanes → result ≡ 0 → IfSome (S.rest input.old) (λ report. ShowsPicture charted report (K.written output.old) (K.written output.new)) }
     ensures trace { form_asked (words_of words.now) ≡ Some Trace → result ≡ 0 → IfSome (S.rest input.old) (λ report. ShowsPicture traced report (K.written output.old) (K.written output.new)) }
 
@@ -96,7 +96,7 @@ fn with_file<S: Source, F: Source, K: Sink>(
     ensures ends { Ends S.Source F.Source K.Sink result input.old input.new file.old file.new output.old output.new }
     ensures form { result ≢ 2 }
     ensures refused { asked.form ≡ Refused → result ≤ 1 → IfSome (S.rest input.old) (λ report. ShowsRefused report result (K.written output.old) (K.written output.new)) }
-    ensures sequence { asked.form ≡ Sequence → result ≡ 0 → IfSome (S.rest input.old) (λ report. ShowsPicture sequenced report (K.written output.old) (K.written output.new)) }
+    ensures sequence { asked.form ≡ Sequence → result ≡ 0 → IfSome (S.rest input.old) (λ report. ShowsPicture (sequenced asked) report (K.written output.old) (K.written output.new)) }
     ensures lanes { asked.form ≡ Lanes → result ≡ 0 → IfSome (S.rest input.old) (λ report. ShowsPicture charted report (K.written output.old) (K.written output.new)) }
     ensures trace { asked.form ≡ Trace → result ≡ 0 → IfSome (S.rest input.old) (λ report. ShowsPicture traced report (K.written output.old) (K.written output.new)) }
     ensures expected { asked.form ≡ Expect → result ≤ 1 → IfSome (F.rest file.old) (λ text. IfSome (S.rest input.old) (λ report. ShowsExpected text report result (K.written output.old) (K.written output.new))) }
@@ -126,7 +126,7 @@ fn with_input<S: Source, K: Sink>(
     ensures ends { EndsOn S.Source K.Sink result input.old input.new output.old output.new }
     ensures form { result ≢ 2 }
     ensures refused { asked.form ≡ Refused → result ≤ 1 → IfSome (S.rest input.old) (λ report. ShowsRefused report result (K.written output.old) (K.written output.new)) }
-    ensures sequence { asked.form ≡ Sequence → result ≡ 0 → IfSome (S.rest input.old) (λ report. ShowsPicture sequenced report (K.written output.old) (K.written output.new)) }
+    ensures sequence { asked.form ≡ Sequence → result ≡ 0 → IfSome (S.rest input.old) (λ report. ShowsPicture (sequenced asked) report (K.written output.old) (K.written output.new)) }
     ensures lanes { asked.form ≡ Lanes → result ≡ 0 → IfSome (S.rest input.old) (λ report. ShowsPicture charted report (K.written output.old) (K.written output.new)) }
     ensures trace { asked.form ≡ Trace → result ≡ 0 → IfSome (S.rest input.old) (λ report. ShowsPicture traced report (K.written output.old) (K.written output.new)) }
     ensures expected { asked.form ≡ Expect → result ≤ 1 → IfSome (S.rest input.old) (λ report. ShowsExpected file.now report result (K.written output.old) (K.written output.new)) }
@@ -150,7 +150,7 @@ fn with_report<K: Sink>(
     requires file { length file.now ≤ 8388608 }
     ensures shows { Shows K.Sink result output.old output.new }
     ensures refused { asked.form ≡ Refused → result ≤ 1 → ShowsRefused report.now result (K.written output.old) (K.written output.new) }
-    ensures sequence { asked.form ≡ Sequence → result ≡ 0 → ShowsPicture sequenced report.now (K.written output.old) (K.written output.new) }
+    ensures sequence { asked.form ≡ Sequence → result ≡ 0 → ShowsPicture (sequenced asked) report.now (K.written output.old) (K.written output.new) }
     ensures lanes { asked.form ≡ Lanes → result ≡ 0 → ShowsPicture charted report.now (K.written output.old) (K.written output.new) }
     ensures trace { asked.form ≡ Trace → result ≡ 0 → ShowsPicture traced report.now (K.written output.old) (K.written output.new) }
     ensures expected { asked.form ≡ Expect → result ≤ 1 → ShowsExpected file.now report.now result (K.written output.old) (K.written output.new) }
@@ -183,7 +183,7 @@ fn show_report<K: Sink>(
     requires file { length file.now ≤ 8388608 }
     ensures shows { Shows K.Sink result output.old output.new }
     ensures refused { asked.form ≡ Refused → result ≤ 1 → ShowsRefused report.now result (K.written output.old) (K.written output.new) }
-    ensures sequence { asked.form ≡ Sequence → result ≡ 0 → ShowsPicture sequenced report.now (K.written output.old) (K.written output.new) }
+    ensures sequence { asked.form ≡ Sequence → result ≡ 0 → ShowsPicture (sequenced asked) report.now (K.written output.old) (K.written output.new) }
     ensures lanes { asked.form ≡ Lanes → result ≡ 0 → ShowsPicture charted report.now (K.written output.old) (K.written output.new) }
     ensures trace { asked.form ≡ Trace → result ≡ 0 → ShowsPicture traced report.now (K.written output.old) (K.written output.new) }
     ensures expected { asked.form ≡ Expect → result ≤ 1 → ShowsExpected file.now report.now result (K.written output.old) (K.written output.new) }
@@ -209,14 +209,14 @@ fn show<K: Sink>(
     requires { length file.now ≤ 8388608 }
     ensures shows { Shows K.Sink result output.old output.new }
     ensures refused { asked.form ≡ Refused → result ≤ 3 → (text : List ℕ) × ListsRefused view.now.domains.items result text × Appends (K.written output.old) (K.written output.new) text }
-    ensures sequence { asked.form ≡ Sequence → result ≡ 0 → Draws sequenced view.now.domains.items (K.written output.old) (K.written output.new) }
+    ensures sequence { asked.form ≡ Sequence → result ≡ 0 → Draws (sequenced asked) view.now.domains.items (K.written output.old) (K.written output.new) }
     ensures lanes { asked.form ≡ Lanes → result ≡ 0 → Draws charted view.now.domains.items (K.written output.old) (K.written output.new) }
     ensures trace { asked.form ≡ Trace → result ≡ 0 → Draws traced view.now.domains.items (K.written output.old) (K.written output.new) }
     ensures expected { asked.form ≡ Expect → result ≤ 1 → ShowsAnswers file.now view.now result (K.written output.old) (K.written output.new) }
 {
     match asked.form {
         Form::Refused => tell_refused(alloc, view, output),
-        Form::Text => tell_text(alloc, view, report.len(), asked, output),
+        Form::Text => tell_text(alloc, report, view, asked, output),
         Form::Expect => tell_expected(alloc, file, view, output),
         Form::Sequence => tell_sequence(alloc, report, view, asked, output),
         Form::Lanes => tell_lanes(alloc, report, view, output),

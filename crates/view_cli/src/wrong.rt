@@ -1,9 +1,13 @@
 //! The line of a wrong report.
 
+ghost use Rattle.std.specs.Prelude.{◌<◌};
 ghost use Rattle.report_view.specs.Texts.{PutsText, WritesText};
+ghost use Rattle.view_cli.specs.Statuses.{Shows};
 
+use crate::status::{self, after_write};
 use outer_io::{Failed, Sink, Writer};
 use report_check::CheckReason;
+use report_events::EventFault;
 
 /// Returns the word for why a line is wrong.
 pub fn reason_word(reason: CheckReason) -> &'static [u8] {
@@ -38,4 +42,17 @@ fn put_wrong<K: Sink>(out: &mut Writer<'_, K>, line: u32, reason: &[u8])
     out.put(b" ");
     out.put(reason);
     out.put(b"\n");
+}
+
+/// Writes why a report has no picture, or is not shown in one order. Returns the status.
+pub fn refuse<K: Sink>(fault: EventFault, output: &mut K) -> u8
+    ensures shows { Shows K.Sink result output.old output.new }
+    ensures other { 0 < result }
+{
+    match fault {
+        EventFault::NoCause { line } => {
+            after_write(write_wrong(line, b"order", output), status::NO_REPORT)
+        }
+        EventFault::NoMemory => status::NO_MEMORY,
+    }
 }

@@ -2,12 +2,13 @@
 #![tactic(auto)]
 
 mod answer;
-mod collecting;
+mod course;
 mod filter;
 mod missing;
+mod place;
 mod queues;
-mod segment;
 mod standing;
+mod survey;
 mod text;
 mod told;
 mod words;

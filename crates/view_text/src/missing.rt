@@ -3,8 +3,8 @@
 
 ghost use Rattle.report_view.specs.Texts.{PutsText};
 
-use crate::collecting::Queued;
 use crate::standing::{Standing, standing_at};
+use crate::survey::Queued;
 use board_model::{Call, CallLine, Scenario};
 use outer_io::{Sink, Writer};
 use report_view::{DomainView, ScriptLine};
@@ -41,22 +41,22 @@ fn waits_for(wait: &Call, line: &CallLine) -> bool {
     }
 }
 
-/// Puts what was missing at the end of a wait, which is a line of a domain: the requests that it waited for, how many frames had come from each
+/// Puts what was missing at the end of a wait, which is a line of a domain and has its answer at a line of the report: the requests that it waited for, how many frames had come from each
 /// peer and were on their way, what was queued at endpoints of the domain, and how many calls each peer had made.
 pub fn put_missing<K: Sink>(
     out: &mut Writer<'_, K>,
     missing: Missing<'_>,
     domain: &DomainView<'_>,
     wait: ScriptLine<'_>,
-    segment: u32,
+    line: u32,
 )
     ensures { PutsText K.Sink out.old out.new }
 {
     put_requests(out, missing.scenario, domain, wait);
-    if let Some(standing) = standing_at(missing.standings, segment) {
+    if let Some(standing) = standing_at(missing.standings, line) {
         put_peers(out, missing.scenario, domain.journal.domain, &standing);
     }
-    put_queued(out, missing.queued, segment);
+    put_queued(out, missing.queued, line);
 }
 
 /// Puts how far the peers of a domain were.
@@ -141,14 +141,14 @@ fn put_made<K: Sink>(out: &mut Writer<'_, K>, domain: u8, calls: usize, standing
     out.put(b"\n");
 }
 
-/// Puts what was queued at the endpoints of a domain where a segment ends.
-fn put_queued<K: Sink>(out: &mut Writer<'_, K>, queued: &[Queued], segment: u32)
+/// Puts what was queued at the endpoints of a domain where the answer of a wait is at a line of the report.
+fn put_queued<K: Sink>(out: &mut Writer<'_, K>, queued: &[Queued], line: u32)
     ensures { PutsText K.Sink out.old out.new }
 {
-    let first = queued.partition_point(|found| found.segment < segment);
+    let first = queued.partition_point(|found| found.line < line);
     let (_, mut rest) = queued.split_at(queued.len().min(first));
     while let [found, after @ ..] = rest {
-        if found.segment != segment {
+        if found.line != line {
             return;
         }
         put_queue(out, found);

@@ -1,6 +1,5 @@
 //! How far the domains were when a wait reached its limit.
 
-use crate::segment::{End, Segment};
 use event_order::{Event, What};
 use mc_base::NoMemory;
 use std::alloc::Global;
@@ -8,8 +7,8 @@ use std::alloc::Global;
 /// How far the domains were at the end of a wait, in the one order of the report's events.
 #[derive(Clone, Copy, Debug)]
 pub struct Standing {
-    /// The number of the segment in which the wait ended.
-    pub segment: u32,
+    /// The line of the report with the answer of the wait, counted from 1.
+    pub line: u32,
     /// How many frames were on their way to the domain, by the peers' numbers.
     pub on_way: [u32; 8],
     /// How many it had taken.
@@ -53,7 +52,7 @@ impl Counts {
             on_way[peer] = self.puts[peer][own].saturating_sub(taken[peer]);
         }
         Standing {
-            segment: event.number,
+            line: event.line,
             on_way,
             taken,
             made: self.made,
@@ -61,19 +60,17 @@ impl Counts {
     }
 }
 
-/// Whether a wait reaches its limit in the segment of this number.
-fn times_out(segments: &[Segment], number: u32) -> bool {
-    match segments.get(number as usize) {
-        Some(segment) => segment.end == End::TimedOut,
-        None => false,
-    }
+/// Whether an event is the answer of a wait, at one of these lines, which rise.
+fn is_limit(lines: &[u32], event: &Event) -> bool {
+    matches!(event.what, What::Answer { .. }) && lines.binary_search(&event.line).is_ok()
 }
 
-/// Returns how far the domains were at each wait that reached its limit, by the numbers of segments. The events stand in their one order.
+/// Returns how far the domains were at each wait that reached its limit, by the lines of the report with their answers, which rise. The events stand
+/// in their one order.
 pub fn standings_of(
     alloc: Global,
     events: &[Event],
-    segments: &[Segment],
+    lines: &[u32],
 ) -> Result<Vec<Standing>, NoMemory> {
     let mut counts = Counts {
         puts: [[0; 8]; 8],
@@ -82,20 +79,18 @@ pub fn standings_of(
     };
     let mut standings = Vec::new(alloc);
     for event in events {
-        if times_out(segments, event.number) {
-            if standings.push(counts.standing(*event)).is_err() {
-                return Err(NoMemory);
-            }
+        if is_limit(lines, event) && standings.push(counts.standing(*event)).is_err() {
+            return Err(NoMemory);
         }
         counts.note(*event);
     }
-    standings.sort_unstable_by_key(|standing| standing.segment);
+    standings.sort_unstable_by_key(|standing| standing.line);
     Ok(standings)
 }
 
-/// Returns how far the domains were at the wait that reached its limit in a segment, where that is known.
-pub fn standing_at(standings: &[Standing], segment: u32) -> Option<Standing> {
-    match standings.binary_search_by_key(&segment, |standing| standing.segment) {
+/// Returns how far the domains were at the wait whose answer is at a line, where that is known.
+pub fn standing_at(standings: &[Standing], line: u32) -> Option<Standing> {
+    match standings.binary_search_by_key(&line, |standing| standing.line) {
         Ok(place) => standings.get(place).copied(),
         Err(_) => None,
     }

@@ -45,7 +45,7 @@ returns-in-Ok-clause-checked g c = λ is few.
 pub returns-in-Ok-clause-sequence : goal.returns-in-Ok-clause-sequence
 returns-in-Ok-clause-sequence g c = λ is done.
     let bytes = rw (← c.deref.ensures.value) at c.in-Ok.ensures.bytes in
-    if_text _ _ c.deref.result.now (λ report. ShowsPicture sequenced report _ _) bytes c.in-Ok.ensures.end (c.with_report.ensures.sequence is done)
+    if_text _ _ c.deref.result.now (λ report. ShowsPicture (sequenced c.args.asked) report _ _) bytes c.in-Ok.ensures.end (c.with_report.ensures.sequence is done)
 
 pub returns-in-Err-clause-sequence : goal.returns-in-Err-clause-sequence
 returns-in-Err-clause-sequence g c = λ is done. absurd (not_read c.in-Err.fault c.after_read.result c.after_read.ensures (omega (arith, done)))

@@ -1,6 +1,6 @@
 use Rattle.std.proofs.Common.{arith}
 use Rattle.view_cli.proofs.Showing.{shows_after, shows_nothing}
-use Rattle.view_cli.proofs.pictures.refuse.Goals as goal
+use Rattle.view_cli.proofs.wrong.refuse.Goals as goal
 
 pub returns-in-NoCause-clause-shows : goal.returns-in-NoCause-clause-shows
 returns-in-NoCause-clause-shows g c =

@@ -1,7 +1,7 @@
 use Rattle.std.proofs.Common.{◌≤◌, ℕ, List, sym, subst}
 use Rattle.report_text.specs.Texts.{longest_line}
 use Rattle.report_text.proofs.JournalLaneLemmas.{longest-drop}
-use Rattle.view_text.proofs.segment.text_at.Goals as goal
+use Rattle.view_text.proofs.place.text_at.Goals as goal
 
 pub returns : goal.returns
 returns c =

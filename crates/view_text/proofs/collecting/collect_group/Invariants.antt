@@ -1,6 +1,0 @@
-use Rattle.std.proofs.Common.{◌≤◌, length}
-use Rattle.report_text.specs.Texts.{longest_line}
-use Rattle.view_text.proofs.collecting.collect_group.Given as goal
-
-abbrev pub invariant-loop-done : goal.invariant-loop-done
-invariant-loop-done l = longest_line l.rest ≤ length l.room
