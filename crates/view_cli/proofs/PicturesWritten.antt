@@ -6,10 +6,11 @@ use Rattle.outer_io.specs.Puts.{IsFinished, Puts}
 use Rattle.outer_io.specs.declared.sink.Sink.{Ghosts}
 use Rattle.outer_io.specs.declared.writer.Writer.{Writer}
 use Rattle.outer_io.proofs.Finishing.{finished}
+use Rattle.report_events.specs.Events.{AreInOrder}
 use Rattle.report_view.specs.declared.view.DomainView.{DomainView}
 use Rattle.report_view.specs.Texts.{WritesText}
 use Rattle.view_cli.specs.Drawing.{WritesPicture}
-use Rattle.view_cli.specs.Drawn.{AreInOrder, Draws}
+use Rattle.view_cli.specs.Drawn.{Draws}
 
 -- what was put to a new writer is written when it is finished
 pub picture_written : {K T E : Type 0} (sink : Ghosts K) (picture : List Event → List ℕ → Type 0) (events : List Event) (first last : Writer K) (end : K) (result : Result T E) (text : List ℕ)

@@ -4,20 +4,20 @@
 use Rattle.std.specs.Prelude.{ℕ, Bool, true, false, List, [], ◌∷◌, Option, None, Some, option_map}
 use Rattle.board_model.specs.FileWords.{number_of}
 use Rattle.board_model.specs.Numerals.{at_most}
+use Rattle.mc_base.specs.Limits.{last_domain}
 use Rattle.view_cli.specs.Words.{form_in, option_in}
 use Rattle.view_cli.specs.declared.asked.Asked.{Asked}
 use Rattle.view_cli.specs.declared.asked.Awaited.{Awaited}
 use Rattle.view_cli.specs.declared.asked.Awaited.TheVariants as awaited
+use Rattle.view_cli.specs.declared.asked.Counted.{Counted}
+use Rattle.view_cli.specs.declared.asked.Counted.TheVariants as counted
 use Rattle.view_cli.specs.declared.asked.Reading.{Reading}
 use Rattle.view_cli.specs.declared.form.Form.{Form}
 use Rattle.view_cli.specs.declared.form.Form.TheVariants as form
 use Rattle.view_cli.specs.declared.form.OptionName.{OptionName}
 use Rattle.view_cli.specs.declared.form.OptionName.TheVariants as option
 
--- the greatest number of a domain, and that of a line and of a channel
-abbrev pub domain_most : ℕ
-domain_most = 7
-
+-- the greatest number of a line, of a channel and of an event
 abbrev pub most : ℕ
 most = 4294967295
 
@@ -37,7 +37,7 @@ first_awaited other = awaited.Option
 abbrev pub unasked : Form → Reading
 unasked f = reading (record { form = f; filter = record { domain = None; channel = None; line = None; refused = false }; together = false; check = false; from = None; to = None }) (first_awaited f)
 
--- ---- the calls that are kept
+-- ---- what numbers add: the calls of a domain or of a channel's frames are kept
 
 abbrev pub of_domain : Asked → ℕ → Reading
 of_domain a d = reading (record a { filter = record a.filter { domain = Some d } }) awaited.Option
@@ -45,16 +45,11 @@ of_domain a d = reading (record a { filter = record a.filter { domain = Some d }
 abbrev pub of_channel : Asked → ℕ → ℕ → Reading
 of_channel a d n = reading (record a { filter = record a.filter { channel = Some (record { domain = d; number = n }) } }) awaited.Option
 
-abbrev pub of_line : Asked → ℕ → Reading
-of_line a k = reading (record a { filter = record a.filter { line = Some k } }) awaited.Option
-
--- ---- the events that are drawn
-
-abbrev pub of_from : Asked → ℕ → Reading
-of_from a k = reading (record a { from = Some k }) awaited.Option
-
-abbrev pub of_to : Asked → ℕ → Reading
-of_to a k = reading (record a { to = Some k }) awaited.Option
+-- the call of a line is kept, or the events are drawn from a number or up to it
+abbrev pub of_number : Counted → Asked → ℕ → Reading
+of_number counted.Line a k = reading (record a { filter = record a.filter { line = Some k } }) awaited.Option
+of_number counted.From a k = reading (record a { from = Some k }) awaited.Option
+of_number counted.To a k = reading (record a { to = Some k }) awaited.Option
 
 -- ---- the words
 
@@ -62,22 +57,20 @@ of_to a k = reading (record a { to = Some k }) awaited.Option
 abbrev pub behind_option : Asked → OptionName → Reading
 behind_option a option.Domain = reading a awaited.Domain
 behind_option a option.Channel = reading a awaited.Channel
-behind_option a option.Line = reading a awaited.Line
+behind_option a option.Line = reading a (awaited.Number counted.Line)
 behind_option a option.Refused = reading (record a { filter = record a.filter { refused = true } }) awaited.Option
 behind_option a option.Check = reading (record a { check = true }) awaited.Option
 behind_option a option.Together = reading (record a { together = true }) awaited.Option
-behind_option a option.From = reading a awaited.From
-behind_option a option.To = reading a awaited.To
+behind_option a option.From = reading a (awaited.Number counted.From)
+behind_option a option.To = reading a (awaited.Number counted.To)
 
 -- behind a word that is to be this
 abbrev pub word_as : Awaited → Asked → List ℕ → Option Reading
 word_as awaited.Option a word = option_map (behind_option a) (option_in a.form word)
 word_as awaited.File a word = Some (reading a awaited.Option)
-word_as awaited.Domain a word = option_map (of_domain a) (number_to domain_most word)
-word_as awaited.Line a word = option_map (of_line a) (number_to most word)
-word_as awaited.From a word = option_map (of_from a) (number_to most word)
-word_as awaited.To a word = option_map (of_to a) (number_to most word)
-word_as awaited.Channel a word = option_map (λ d. reading a (awaited.ChannelOf d)) (number_to domain_most word)
+word_as awaited.Domain a word = option_map (of_domain a) (number_to last_domain word)
+word_as (awaited.Number c) a word = option_map (of_number c a) (number_to most word)
+word_as awaited.Channel a word = option_map (λ d. reading a (awaited.ChannelOf d)) (number_to last_domain word)
 word_as (awaited.ChannelOf d) a word = option_map (of_channel a d) (number_to most word)
 
 abbrev pub words_read : Option Reading → List (List ℕ) → Option Reading

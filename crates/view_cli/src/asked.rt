@@ -1,15 +1,20 @@
 //! What the words of the program ask for.
 
 ghost use Rattle.std.specs.Prelude.{◌≡◌, Some};
-ghost use Rattle.view_cli.specs.Asked.{asked_by, behind_option, first_awaited, number_to as number_in, of_channel, of_domain, of_from, of_line, of_to, unasked, whole as whole_of, word_as, words_read};
+ghost use Rattle.mc_base.specs.Limits.{last_domain};
+ghost use Rattle.view_cli.specs.Asked.{asked_by, behind_option, first_awaited, number_to as number_in, of_channel, of_domain, of_number, reading as reading_of, unasked, whole as whole_of, word_as, words_read};
 ghost use Rattle.view_cli.specs.Words.{words_of};
 ghost use Rattle.view_cli.specs.declared.asked.Awaited.TheVariants as awaited;
 ghost use Rattle.view_cli.specs.declared.form.OptionName.TheVariants as named;
 
 use crate::form::{Form, OptionName, form_named, option_named};
 use board_model::number_to;
+use mc_base::MAX_DOMAINS;
 use report_view::Channel;
 use view_text::Filter;
+
+/// The highest number of a domain.
+const LAST_DOMAIN: u64 = MAX_DOMAINS as u64 - 1;
 
 /// A form, and which calls of a report it is to show.
 #[derive(Clone, Copy, Debug)]
@@ -35,16 +40,23 @@ enum Awaited {
     File,
     /// The number of a domain.
     Domain,
-    /// The number of a line.
-    Line,
-    /// The number of the first event.
-    From,
-    /// The number of the last event.
-    To,
+    /// A number.
+    Number { counted: Counted },
     /// The number of a domain, and behind it that of a channel.
     Channel,
     /// The number of a channel of this domain.
     ChannelOf { domain: u8 },
+}
+
+/// What a number counts.
+#[derive(Clone, Copy, Debug)]
+enum Counted {
+    /// The lines of the report.
+    Line,
+    /// The events, of which it is the first that is drawn.
+    From,
+    /// The events, of which it is the last that is drawn.
+    To,
 }
 
 /// What is asked for by some words, and what the next one is to be.
@@ -99,11 +111,21 @@ fn number(most: u32, word: &[u8]) -> Option<u32>
 
 /// Returns the number of a domain that a word writes.
 fn domain_number(word: &[u8]) -> Option<u8>
-    ensures { result ≡ number_in 7 word.now }
+    ensures { result ≡ number_in last_domain word.now }
 {
-    match number_to(7, word) {
+    match number_to(LAST_DOMAIN, word) {
         Some(number) => Some(number as u8),
         None => None,
+    }
+}
+
+/// This is asked for, and an option may follow.
+fn asking(asked: Asked) -> Reading
+    ensures { result ≡ reading_of asked awaited.Option }
+{
+    Reading {
+        asked,
+        awaited: Awaited::Option,
     }
 }
 
@@ -115,24 +137,7 @@ fn with_domain(asked: Asked, domain: u8) -> Reading
         domain: Some(domain),
         ..asked.filter
     };
-    Reading {
-        asked: Asked { filter, ..asked },
-        awaited: Awaited::Option,
-    }
-}
-
-/// Keeps the call of a line.
-fn with_line(asked: Asked, line: u32) -> Reading
-    ensures { result ≡ of_line asked line }
-{
-    let filter = Filter {
-        line: Some(line),
-        ..asked.filter
-    };
-    Reading {
-        asked: Asked { filter, ..asked },
-        awaited: Awaited::Option,
-    }
+    asking(Asked { filter, ..asked })
 }
 
 /// Keeps the calls with a frame of a channel.
@@ -143,78 +148,29 @@ fn with_channel(asked: Asked, domain: u8, number: u32) -> Reading
         channel: Some(Channel { domain, number }),
         ..asked.filter
     };
-    Reading {
-        asked: Asked { filter, ..asked },
-        awaited: Awaited::Option,
-    }
+    asking(Asked { filter, ..asked })
 }
 
-/// Draws the events from this number on.
-fn with_from(asked: Asked, first: u32) -> Reading
-    ensures { result ≡ of_from asked first }
+/// Keeps the call of a line, or draws the events from this number on or up to it.
+fn with_number(counted: Counted, asked: Asked, number: u32) -> Reading
+    ensures { result ≡ of_number counted asked number }
 {
-    Reading {
-        asked: Asked {
-            from: Some(first),
+    match counted {
+        Counted::Line => {
+            let filter = Filter {
+                line: Some(number),
+                ..asked.filter
+            };
+            asking(Asked { filter, ..asked })
+        }
+        Counted::From => asking(Asked {
+            from: Some(number),
             ..asked
-        },
-        awaited: Awaited::Option,
-    }
-}
-
-/// Draws the events up to this number.
-fn with_to(asked: Asked, last: u32) -> Reading
-    ensures { result ≡ of_to asked last }
-{
-    Reading {
-        asked: Asked {
-            to: Some(last),
+        }),
+        Counted::To => asking(Asked {
+            to: Some(number),
             ..asked
-        },
-        awaited: Awaited::Option,
-    }
-}
-
-/// Begins an option, or adds it where nothing is to follow it.
-fn with_option(asked: Asked, option: OptionName) -> Reading
-    ensures { result ≡ behind_option asked option }
-{
-    match option {
-        OptionName::Domain => Reading {
-            asked,
-            awaited: Awaited::Domain,
-        },
-        OptionName::Channel => Reading {
-            asked,
-            awaited: Awaited::Channel,
-        },
-        OptionName::Line => Reading {
-            asked,
-            awaited: Awaited::Line,
-        },
-        OptionName::Refused => with_refused(asked),
-        OptionName::Check => Reading {
-            asked: Asked {
-                check: true,
-                ..asked
-            },
-            awaited: Awaited::Option,
-        },
-        OptionName::From => Reading {
-            asked,
-            awaited: Awaited::From,
-        },
-        OptionName::To => Reading {
-            asked,
-            awaited: Awaited::To,
-        },
-        OptionName::Together => Reading {
-            asked: Asked {
-                together: true,
-                ..asked
-            },
-            awaited: Awaited::Option,
-        },
+        }),
     }
 }
 
@@ -226,9 +182,50 @@ fn with_refused(asked: Asked) -> Reading
         refused: true,
         ..asked.filter
     };
-    Reading {
-        asked: Asked { filter, ..asked },
-        awaited: Awaited::Option,
+    asking(Asked { filter, ..asked })
+}
+
+/// Waits for what follows an option.
+fn awaiting(asked: Asked, awaited: Awaited) -> Reading
+    ensures { result ≡ reading_of asked awaited }
+{
+    Reading { asked, awaited }
+}
+
+/// Begins an option, or adds it where nothing is to follow it.
+fn with_option(asked: Asked, option: OptionName) -> Reading
+    ensures { result ≡ behind_option asked option }
+{
+    match option {
+        OptionName::Domain => awaiting(asked, Awaited::Domain),
+        OptionName::Channel => awaiting(asked, Awaited::Channel),
+        OptionName::Line => awaiting(
+            asked,
+            Awaited::Number {
+                counted: Counted::Line,
+            },
+        ),
+        OptionName::From => awaiting(
+            asked,
+            Awaited::Number {
+                counted: Counted::From,
+            },
+        ),
+        OptionName::To => awaiting(
+            asked,
+            Awaited::Number {
+                counted: Counted::To,
+            },
+        ),
+        OptionName::Refused => with_refused(asked),
+        OptionName::Check => asking(Asked {
+            check: true,
+            ..asked
+        }),
+        OptionName::Together => asking(Asked {
+            together: true,
+            ..asked
+        }),
     }
 }
 
@@ -252,29 +249,11 @@ fn read_domain(asked: Asked, word: &[u8]) -> Option<Reading>
     }
 }
 
-fn read_line(asked: Asked, word: &[u8]) -> Option<Reading>
-    ensures { result ≡ word_as awaited.Line asked word.now }
+fn read_number(counted: Counted, asked: Asked, word: &[u8]) -> Option<Reading>
+    ensures { result ≡ word_as (awaited.Number counted) asked word.now }
 {
     match number(u32::MAX, word) {
-        Some(line) => Some(with_line(asked, line)),
-        None => None,
-    }
-}
-
-fn read_from(asked: Asked, word: &[u8]) -> Option<Reading>
-    ensures { result ≡ word_as awaited.From asked word.now }
-{
-    match number(u32::MAX, word) {
-        Some(first) => Some(with_from(asked, first)),
-        None => None,
-    }
-}
-
-fn read_to(asked: Asked, word: &[u8]) -> Option<Reading>
-    ensures { result ≡ word_as awaited.To asked word.now }
-{
-    match number(u32::MAX, word) {
-        Some(last) => Some(with_to(asked, last)),
+        Some(number) => Some(with_number(counted, asked, number)),
         None => None,
     }
 }
@@ -312,9 +291,7 @@ fn read_word(reading: Reading, word: &[u8]) -> Option<Reading>
             awaited: Awaited::Option,
         }),
         Awaited::Domain => read_domain(asked, word),
-        Awaited::Line => read_line(asked, word),
-        Awaited::From => read_from(asked, word),
-        Awaited::To => read_to(asked, word),
+        Awaited::Number { counted } => read_number(counted, asked, word),
         Awaited::Channel => read_channel(asked, word),
         Awaited::ChannelOf { domain } => read_channel_of(domain, asked, word),
     }

@@ -1,16 +1,17 @@
 //! The forms `trace`, `lanes` and `sequence`: the pictures of a report.
 
-ghost use Rattle.std.specs.Prelude.{◌≡◌, ◌≤◌, ◌<◌, ℕ, List, IfOk, length, vec_len};
-ghost use Rattle.report_sequence.specs.Shown.{part_of};
+ghost use Rattle.std.specs.Prelude.{◌≡◌, ◌≤◌, ◌<◌, List, IfOk, length, vec_len};
+ghost use Rattle.report_events.specs.Events.{AreInOrder};
 ghost use Rattle.report_text.specs.Texts.{longest_line as length_of_longest};
 ghost use Rattle.report_view.specs.declared.view.DomainView.{DomainView};
-ghost use Rattle.view_cli.specs.Drawn.{AreInOrder, Draws, charted, sequenced, traced};
+ghost use Rattle.view_cli.specs.Drawn.{Draws, asked_of, behind_last, charted, first_place as place_of_first, sequenced, traced};
 ghost use Rattle.view_cli.specs.Drawing.{WritesPicture};
 ghost use Rattle.view_cli.specs.Statuses.{Shows};
+ghost use Rattle.view_cli.specs.declared.asked.Asked.{Asked};
 
 use crate::asked::Asked;
 use crate::status::{self, after_write};
-use crate::wrong::write_wrong;
+use crate::wrong::refuse;
 use event_order::Event;
 use mc_base::NoMemory;
 use outer_io::{Failed, Sink, Writer};
@@ -88,24 +89,11 @@ fn write_sequence<K: Sink>(
     output: &mut K,
 ) -> Result<(), Failed>
     requires room { length_of_longest subject.report.now ≤ length room.old }
-    ensures { (from : ℕ) (to : ℕ) → plan.now.events.now ≡ part_of from to subject.entry.events.now → WritesPicture K.Sink sequenced subject.entry.events.now output.old output.new result }
+    ensures { (asked : Asked) → plan.now.events.now ≡ asked_of asked subject.entry.events.now → WritesPicture K.Sink (sequenced asked) subject.entry.events.now output.old output.new result }
 {
     let mut out = Writer::new(output);
     put_sequence(&mut out, subject, plan, room);
     out.finish()
-}
-
-/// Writes why a report has no picture. Returns the status.
-fn refuse<K: Sink>(fault: EventFault, output: &mut K) -> u8
-    ensures shows { Shows K.Sink result output.old output.new }
-    ensures other { 0 < result }
-{
-    match fault {
-        EventFault::NoCause { line } => {
-            after_write(write_wrong(line, b"order", output), status::NO_REPORT)
-        }
-        EventFault::NoMemory => status::NO_MEMORY,
-    }
 }
 
 /// Writes a report as a trace. Returns the status.
@@ -160,7 +148,7 @@ pub fn tell_sequence<K: Sink>(
     output: &mut K,
 ) -> u8
     ensures shows { Shows K.Sink result output.old output.new }
-    ensures draws { result ≡ 0 → Draws sequenced view.now.domains.items (K.written output.old) (K.written output.new) }
+    ensures draws { result ≡ 0 → Draws (sequenced asked) view.now.domains.items (K.written output.old) (K.written output.new) }
 {
     match drawn_of(alloc, report, view) {
         Ok(drawn) => {
@@ -182,12 +170,16 @@ pub fn tell_sequence<K: Sink>(
 }
 
 /// The place of the first event that is asked for.
-fn first_place(asked: Asked) -> u32 {
+fn first_place(asked: Asked) -> u32
+    ensures { result ≡ place_of_first asked.from }
+{
     asked.from.unwrap_or(1).saturating_sub(1)
 }
 
 /// The place behind the last event that is asked for.
-fn last_place(asked: Asked) -> u32 {
+fn last_place(asked: Asked) -> u32
+    ensures { result ≡ behind_last (place_of_first asked.from) asked.to }
+{
     match asked.to {
         Some(number) => number,
         None => first_place(asked).saturating_add(PAGE),
@@ -204,7 +196,7 @@ fn draw_sequence<K: Sink>(
 ) -> u8
     requires room { length_of_longest subject.report.now ≤ length room.old }
     ensures shows { Shows K.Sink result output.old output.new }
-    ensures draws { (ds : List DomainView) → AreInOrder ds subject.entry.events.now → result ≡ 0 → Draws sequenced ds (K.written output.old) (K.written output.new) }
+    ensures draws { (ds : List DomainView) → AreInOrder ds subject.entry.events.now → result ≡ 0 → Draws (sequenced asked) ds (K.written output.old) (K.written output.new) }
 {
     let (from, to) = (first_place(asked), last_place(asked));
     let Ok(plan) = plan_of(alloc, subject, from, to, room) else {
