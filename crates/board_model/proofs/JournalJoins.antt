@@ -17,7 +17,7 @@ use Rattle.board_model.proofs.ListsJoined.{joinable-tells}
 
 -- ---- the last line
 
-last_split : (lines : List Line) (x : Line) → slice_get lines (length lines - 1) ≡ Some x → lines ≡ take (length lines - 1) lines ++ x ∷ []
+pub last_split : (lines : List Line) (x : Line) → slice_get lines (length lines - 1) ≡ Some x → lines ≡ take (length lines - 1) lines ++ x ∷ []
 last_split lines x at =
     let last = length lines - 1 in
     let within = slice_get_within lines last x at in
@@ -25,7 +25,7 @@ last_split lines x at =
     let one : drop last lines ≡ x ∷ [] = drop-cons lines last x within ∙ ap₂ (λ (y : Line) (ys : List Line). y ∷ ys) (get_or_from_slice_get lines last x x at) (ap (λ (k : ℕ). drop k lines) all ∙ drop-length lines) in
     sym (take-append-drop last lines) ∙ ap (λ ys. take last lines ++ ys) one
 
-last_set : (lines : List Line) (x y : Line) → slice_get lines (length lines - 1) ≡ Some x → slice_set lines (length lines - 1) y ≡ take (length lines - 1) lines ++ y ∷ []
+pub last_set : (lines : List Line) (x y : Line) → slice_get lines (length lines - 1) ≡ Some x → slice_set lines (length lines - 1) y ≡ take (length lines - 1) lines ++ y ∷ []
 last_set lines x y at =
     let last = length lines - 1 in
     let within = slice_get_within lines last x at in

@@ -135,6 +135,8 @@ pub mod WordsRead
 pub mod JournalReading
 pub mod JournalVisits
 pub mod JournalJoins
+pub mod LogLines
+pub mod LogDeeds
 pub mod ItemsHeld
 pub mod JournalFollows
 pub mod JournalPartsJoined

@@ -10,6 +10,7 @@ use Rattle.board_model.specs.Journal.{PlainEntry, joined}
 use Rattle.board_model.specs.Language.{IsLawfulBoard}
 use Rattle.board_model.specs.Unjoined.{unjoined, peers_of}
 use Rattle.board_model.specs.JournalForm.{IsJournal}
+use Rattle.board_model.specs.Logs.{answers_in, answers_on}
 use Rattle.board_model.specs.JournalParts.{Part, part_lines, part_entries, StandBehind}
 
 -- the lines of a domain's plain journal are read back as that journal
@@ -23,3 +24,7 @@ PartsAreJoined = (peers : List ℕ) (ps : List Part) → StandBehind [] ps → j
 -- and every plain journal consists of such parts
 abbrev pub JournalsHaveParts : Type 0
 JournalsHaveParts = (peers : List ℕ) (script : List CallLine) (es : List PlainEntry) → IsJournal peers script es → (ps : List Part) × StandBehind [] ps × (flat_map (part_entries peers) ps ≡ es) × (joined es ≡ flat_map part_lines ps)
+
+-- the joined lines of a plain journal have its answers
+abbrev pub LinesKeepAnswers : Type 0
+LinesKeepAnswers = (es : List PlainEntry) → answers_on (joined es) ≡ answers_in es

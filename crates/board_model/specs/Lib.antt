@@ -34,6 +34,7 @@ pub mod Step
 pub mod Run
 pub mod Traffic
 pub mod Board
+pub mod Logs
 pub mod ChannelLaws
 pub mod Channels
 pub mod JournalDeeds
