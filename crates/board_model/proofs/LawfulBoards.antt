@@ -68,7 +68,7 @@ link_on s a b q none board =
     (record { driver_told = domain_told s l.driver told.0; device_told = domain_told s l.device told.1; two_domains = other_number l.device l.driver apart.0; some_buffers = size.0; buffers_fit = size.1 })
     (pair_new l s.links new.0)
 
-call_on : (s : Scenario) (c : CallParts) → FitsCall c → HoldNot (word_reasons s (Some (call_parts c))) → IsLinkedBoard s → length s.calls + 1 < 2 ^ 32 → IsLinkedBoard (with_parts s (Some (call_parts c)))
+call_on : (s : Scenario) (c : CallParts) → FitsCall c → HoldNot (word_reasons s (Some (call_parts c))) → IsLinkedBoard s → length (s.calls ++ call_line c ∷ []) < 2 ^ 32 → IsLinkedBoard (with_parts s (Some (call_parts c)))
 call_on s c fits none board few =
     let numbers = from_not (list_all is_number (numerals (call_parts c))) none.1.0 in
     let others = tries_numerals c.tries ++ arguments_numerals (form c.callee).arguments 0 c.arguments in
@@ -79,9 +79,9 @@ call_on s c fits none board few =
     (domain_told s (number c.domain) (from_not (is_domain s (number c.domain)) none.1.1.1.1.0))
     (number_fits 0 15 c.node second.0).1
     (call-fits c.callee c.arguments fits.arguments_fit arguments (from_not (list_all are_bytes (contents (call_parts c))) none.1.1.0))
-    few
+    (omega (arith, few, length-append s.calls (call_line c ∷ [])))
 
-line_on : (s : Scenario) (p : Option LineParts) → FitsIfRead p → HoldNot (word_reasons s p) → IsLinkedBoard s → length s.calls + 1 < 2 ^ 32 → IsLinkedBoard (with_parts s p)
+line_on : (s : Scenario) (p : Option LineParts) → FitsIfRead p → HoldNot (word_reasons s p) → IsLinkedBoard s → length (with_parts s p).calls < 2 ^ 32 → IsLinkedBoard (with_parts s p)
 line_on s None fits none board few = absurd (let e = none.0 in cc)
 line_on s (Some no_parts) fits none board few = board
 line_on s (Some (domain_parts d n p)) fits none board few = domain_on s d n p none board
@@ -97,13 +97,21 @@ one_more s (Some (domain_parts d n p)) = omega arith
 one_more s (Some (link_parts a b q)) = omega arith
 one_more s (Some (call_parts c)) = omega (arith, length-append s.calls (call_line c ∷ []))
 
--- what is told above a line has fewer calls than lines, and is a board of linked domains where the lines are few
+-- a line takes no call away
+none_lost : (s : Scenario) (p : Option LineParts) → length s.calls ≤ length (with_parts s p).calls
+none_lost s None = omega arith
+none_lost s (Some no_parts) = omega arith
+none_lost s (Some (domain_parts d n p)) = omega arith
+none_lost s (Some (link_parts a b q)) = omega arith
+none_lost s (Some (call_parts c)) = omega (arith, length-append s.calls (call_line c ∷ []))
+
+-- what is told above a line has fewer calls than lines, and is a board of linked domains where the calls are few
 record IsBegun (n : ℕ) (s : Scenario) : Type 0 where
   fewer : length s.calls < n
-  linked : n ≤ 2 ^ 32 → IsLinkedBoard s
+  linked : length s.calls < 2 ^ 32 → IsLinkedBoard s
 
 goes_on : (n : ℕ) (above : Scenario) (p : Option LineParts) → FitsIfRead p → HoldNot (word_reasons above p) → IsBegun n above → IsBegun (n + 1) (with_parts above p)
-goes_on n above p fits none h = record { fewer = omega (arith, one_more above p, h.fewer); linked = λ few. line_on above p fits none (h.linked (omega arith)) (omega (arith, few, h.fewer)) }
+goes_on n above p fits none h = record { fewer = omega (arith, one_more above p, h.fewer); linked = λ few. line_on above p fits none (h.linked (omega (arith, few, none_lost above p))) few }
 
 none_told : IsLinkedBoard nothing_told
 none_told = record { domains_lawful = tt; domains_differ = tt; links_join = tt; pairs_differ = tt; lines_told = tt; nodes_fit = tt; arguments_fit = tt; lines_few = omega arith }
@@ -116,4 +124,8 @@ pub calls-few : (text : List ℕ) (s : Scenario) → told_by text ≡ Ok s → l
 calls-few text s told = omega (arith, (begun_linked text s told).fewer, lines_few text)
 
 pub lawful_is_linked : (s : Scenario) → IsLawfulBoard s → IsLinkedBoard s
-lawful_is_linked s (text, few, told) = (begun_linked text s told).linked (omega (arith, few, lines_few text))
+lawful_is_linked s (text, few, told) = (begun_linked text s told).linked few
+
+-- the scenario of a small text
+pub lawful-by_text : (text : List ℕ) (s : Scenario) → length text < 2 ^ 32 → told_by text ≡ Ok s → IsLawfulBoard s
+lawful-by_text text s small told = (text, omega (arith, small, calls-few text s told), told)

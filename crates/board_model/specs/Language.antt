@@ -1,7 +1,7 @@
 -- Which text is of which scenario, and for which line and reason any other text is refused: the first line that has a reason,
 -- and the first reason of that line.
 -- Source: docs/FORMATS.md, "Scenario files". A file without a domain line is refused as `domain` at the line after its last.
-use Rattle.std.specs.Prelude.{◌≡◌, ℕ, ◌+◌, ◌-◌, ◌^◌, ◌<◌, List, [], ◌∷◌, length, Option, None, Some, Result, Ok, Err, if◌then◌else◌}
+use Rattle.std.specs.Prelude.{◌≡◌, ℕ, ◌+◌, ◌^◌, ◌<◌, List, [], ◌∷◌, length, Option, None, Some, Result, Ok, Err, if◌then◌else◌}
 use Rattle.board_model.specs.declared.scenario.Scenario.{Scenario}
 use Rattle.board_model.specs.declared.reason.LineReason.{LineReason}
 use Rattle.board_model.specs.declared.reason.LineReason.TheVariants.{Domain}
@@ -33,6 +33,6 @@ told_from n above (line ∷ lines) = unless_refused n (line_reason above line) (
 abbrev pub told_by : List ℕ → Result Scenario RefusedLine
 told_by text = told_from 1 nothing_told (lines_of text)
 
--- a scenario is lawful where it is that of a text small enough to be read
+-- a scenario is lawful where it is that of some text, of any length, and has few enough calls to be counted
 abbrev pub IsLawfulBoard : Scenario → Type 0
-IsLawfulBoard s = (text : List ℕ) × (length text < 2 ^ 32 - 2) × (told_by text ≡ Ok s)
+IsLawfulBoard s = (text : List ℕ) × (length s.calls < 2 ^ 32) × (told_by text ≡ Ok s)

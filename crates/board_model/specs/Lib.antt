@@ -7,6 +7,7 @@ pub mod Forms
 pub mod Grammar
 pub mod LineReasons
 pub mod Language
+pub mod MadeLines
 pub mod LoadBoard
 pub mod Words
 pub mod WordTables

@@ -1,19 +1,18 @@
 -- The load board of n packets: four domains in a ring of links, of which each sends n packets to the domain after it over one
 -- channel, and receives and releases those of the domain before it.
 -- Source: docs/FORMATS.md, "The load board". The lines come in groups. Each group is written for the domains 0 to 3 before the next begins.
-use Rattle.std.specs.Prelude.{ℕ, zero, suc, ◌+◌, ◌%◌, List, [], ◌∷◌, ◌++◌, map, codes, decimal, None, Some}
+use Rattle.std.specs.Prelude.{ℕ, zero, suc, ◌+◌, ◌%◌, List, [], ◌∷◌, ◌++◌, map, codes}
 use Rattle.std.specs.List.{flat_map}
 use Rattle.byteorder.specs.Endian.{little_bytes}
-use Rattle.mc_base.specs.Limits.{try_limit}
 use Rattle.mc_base.specs.declared.name.EndName.{EndName}
 use Rattle.mc_base.specs.declared.channel.Kind.TheVariants.{Packet}
 use Rattle.board_model.specs.declared.scenario.DomainLine.{DomainLine}
 use Rattle.board_model.specs.declared.scenario.LinkLine.{LinkLine}
-use Rattle.board_model.specs.declared.scenario.Call.{Call}
-use Rattle.board_model.specs.declared.scenario.Call.TheVariants.{Create, Lookup, Connect, OpenSend, OpenRecv, PktSend, PktRecv, Release, CloseSend, CloseRecv, Wait}
+use Rattle.board_model.specs.declared.scenario.Call.TheVariants.{Create, Lookup, Connect, OpenSend, OpenRecv, PktSend, PktRecv, Release, CloseSend, CloseRecv}
 use Rattle.board_model.specs.declared.scenario.CallLine.{CallLine}
 use Rattle.board_model.specs.declared.scenario.Scenario.{Scenario}
 use Rattle.board_model.specs.Forms.{label_of}
+use Rattle.board_model.specs.MadeLines.{once, tried, labelled, labelled_tried, waited, packet_label}
 
 -- ---- the ring
 
@@ -34,25 +33,6 @@ ring_link d = record { driver = d; device = next_on_ring d; size = 16 }
 abbrev pub far_end : ℕ → EndName
 far_end d = record { domain = next_on_ring d; node = 0; port = 2 }
 
--- ---- lines of node 0
-
-abbrev pub once : ℕ → Call → CallLine
-once d call = record { domain = d; node = 0; label = None; tries = None; call = call }
-
--- the call, made again as often as a line allows
-abbrev pub tried : ℕ → Call → CallLine
-tried d call = record { domain = d; node = 0; label = None; tries = Some try_limit; call = call }
-
-abbrev pub labelled : ℕ → List ℕ → Call → CallLine
-labelled d label call = record { domain = d; node = 0; label = Some (label_of label); tries = None; call = call }
-
-abbrev pub labelled_tried : ℕ → List ℕ → Call → CallLine
-labelled_tried d label call = record { domain = d; node = 0; label = Some (label_of label); tries = Some try_limit; call = call }
-
--- waits with the largest limit
-abbrev pub waited : ℕ → List ℕ → CallLine
-waited d label = once d (Wait (label_of label) try_limit)
-
 -- ---- the groups, each by its lines of a domain
 
 abbrev pub creates : ℕ → List CallLine
@@ -66,10 +46,6 @@ connects d = labelled_tried d (codes "c") (Connect 1 (far_end d) Packet) ∷ wai
 
 abbrev pub opens : ℕ → List CallLine
 opens d = tried d (OpenRecv 2 Packet) ∷ tried d (OpenSend 1 Packet) ∷ []
-
--- the label of the packet of this number: 112 is p
-abbrev pub packet_label : ℕ → List ℕ
-packet_label k = 112 ∷ decimal k
 
 -- the bytes of a packet are its number
 abbrev pub packet_bytes : ℕ → List ℕ

@@ -13,6 +13,7 @@ use Rattle.board_model.specs.Unjoined.{peers_of}
 use Rattle.mc_journal.specs.Readers.{cut_at, onto_first}
 use Rattle.mc_journal.specs.LineForms.{line_in}
 use Rattle.mc_journal.proofs.PartsRead.{cut-is}
+use Rattle.board_model.proofs.LawfulBoards.{lawful-by_text}
 use Rattle.report_text.specs.declared.outline.Outline.{Outline}
 use Rattle.report_text.specs.Outlines.{outline_of, outline_before, told_line, told_first, told_lines, all_or, behind_told}
 use Rattle.report_text.specs.TextLines.{lines_in, moved}
@@ -217,7 +218,7 @@ text-lawful text t short e =
     let same : scenario.0 ≡ t = ok-is scenario.0 t whole.2 in
     let behind : List (List ℕ) = heading.0.behind.lines in
     subst (λ (x : Told). IsLawfulBoard x.scenario) same
-    (text_of (front_lines behind), omega (arith, short, lines-length text, heading-shorter first heading.0 heading.1, front-shorter behind), scenario-told heading.0.mode heading.0.behind scenario.0 scenario.1)
+    (lawful-by_text (text_of (front_lines behind)) scenario.0.scenario (omega (arith, short, lines-length text, heading-shorter first heading.0 heading.1, front-shorter behind)) (scenario-told heading.0.mode heading.0.behind scenario.0 scenario.1))
   where
     ok-is : (x y : Told) → ◌≡◌ {A = Result Told ℕ} (Ok x) (Ok y) → x ≡ y
     ok-is x y e = cc

@@ -1,5 +1,5 @@
-ghost use Rattle.std.specs.Prelude.{◌≡◌, ◌<◌, IfSome, Ok, length};
-ghost use Rattle.board_model.specs.Language.{told_by};
+ghost use Rattle.std.specs.Prelude.{◌≡◌, IfSome, Ok};
+ghost use Rattle.board_model.specs.Language.{IsLawfulBoard, told_by};
 
 use crate::threads::gates::{InOrder, Meeting};
 use board_model::Scenario;
@@ -20,7 +20,7 @@ mod waits;
 
 pub fn read(alloc: Global, text: &[u8]) -> Option<Scenario>
     ensures told { IfSome result (λ s. told_by text.now ≡ Ok s) }
-    ensures short { IfSome result (λ _. length text.now < 8_000_000) }
+    ensures lawful { IfSome result IsLawfulBoard }
 {
     if text.len() >= 8_000_000 {
         return None;

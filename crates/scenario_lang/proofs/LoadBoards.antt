@@ -16,7 +16,9 @@ use Rattle.board_model.specs.FileWords.{number, is_label}
 use Rattle.board_model.specs.Forms.{label_of, gives_packet}
 use Rattle.board_model.specs.LineReasons.{tells, is_told_of}
 use Rattle.board_model.specs.Language.{nothing_told, IsLawfulBoard}
-use Rattle.board_model.specs.LoadBoard.{ring_numbers, ring_domain, ring_link, tried, once, labelled_tried, packet_label, packet_bytes, for_each, opening, exchange, exchanges, closing, load_calls, ring_board, load_board, load_limit}
+use Rattle.board_model.specs.MadeLines.{tried, once, labelled_tried, packet_label}
+use Rattle.board_model.specs.LoadBoard.{ring_numbers, ring_domain, ring_link, packet_bytes, for_each, opening, exchange, exchanges, closing, load_calls, ring_board, load_board, load_limit}
+use Rattle.board_model.proofs.LawfulBoards.{lawful-by_text}
 use Rattle.board_model.proofs.WordDecimals.{number-decimal}
 use Rattle.scenario_lang.proofs.Options.{cases_bool}
 use Rattle.scenario_lang.proofs.PlainLemmas.{decimal-few}
@@ -399,4 +401,7 @@ text_few n few =
 
 pub load-lawful : (n : ℕ) → n ≤ load_limit → IsLawfulBoard (load_board n)
 unfolding load_board
-load-lawful n few = (canonical (ring_board (load_calls n)), text_few n few, told-back (ring_board (load_calls n)) (omega arith) (load_read n few))
+load-lawful n few =
+    let text : List ℕ = canonical (ring_board (load_calls n)) in
+    let small : length text < 2 ^ 32 = omega (arith, text_few n few) in
+    lawful-by_text text (ring_board (load_calls n)) small (told-back (ring_board (load_calls n)) (omega arith) (load_read n few))

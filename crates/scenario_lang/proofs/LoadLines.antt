@@ -15,7 +15,8 @@ use Rattle.board_model.specs.Grammar.{spaced, line_of, argument_texts, form_word
 use Rattle.board_model.specs.FileWords.{is_digit, is_letter_byte, is_label_byte, is_label}
 use Rattle.board_model.specs.Forms.{Values, form, label_of, told_fits, tries_fit, arguments_labels, gives_request, gives_packet}
 use Rattle.board_model.specs.LineReasons.{is_domain, is_told, is_told_of, tells_wrong_label, names_wrong_label, puts_sound}
-use Rattle.board_model.specs.LoadBoard.{far_end, once, tried, labelled, labelled_tried, waited, packet_label, packet_bytes, ring_board}
+use Rattle.board_model.specs.MadeLines.{once, tried, labelled, labelled_tried, waited, packet_label}
+use Rattle.board_model.specs.LoadBoard.{far_end, packet_bytes, ring_board}
 use Rattle.board_model.proofs.LawfulForms.{AreFit, call_with}
 use Rattle.board_model.proofs.LawfulRanges.{TriesFit}
 use Rattle.board_model.proofs.WordDecimals.{decimal-digits}

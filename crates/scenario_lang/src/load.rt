@@ -4,17 +4,20 @@ ghost use Rattle.std.specs.Prelude.{◌≡◌, ◌≤◌, ◌+◌, ◌++◌, ◌
 ghost use Rattle.arrayvec.specs.ArrayVec.{array_vec_len};
 ghost use Rattle.board_model.specs.Forms.{label_of};
 ghost use Rattle.board_model.specs.Language.{IsLawfulBoard};
+ghost use Rattle.board_model.specs.MadeLines.{
+  once as line_once,
+  tried as line_tried,
+  labelled as line_labelled,
+  labelled_tried as line_labelled_tried,
+  waited as line_waited,
+  packet_label as label_of_packet,
+};
 ghost use Rattle.board_model.specs.LoadBoard.{
   ring_numbers,
   ring_domain,
   ring_link,
   next_on_ring,
   far_end as far_end_of,
-  once as line_once,
-  tried as line_tried,
-  labelled as line_labelled,
-  labelled_tried as line_labelled_tried,
-  waited as line_waited,
   creates,
   lookups,
   connects,
@@ -23,7 +26,6 @@ ghost use Rattle.board_model.specs.LoadBoard.{
   receives,
   releases,
   closes,
-  packet_label as label_of_packet,
   packet_bytes as bytes_of_packet,
   for_each,
   opening,

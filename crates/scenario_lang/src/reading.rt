@@ -1,7 +1,7 @@
 //! Reading scenario files: domains, links, and every call that is built, with labels and tries.
 
 ghost use Rattle.std.specs.Prelude.{◌≡◌, ◌≤◌, ◌<◌, IfOk, Ok, Err, length};
-ghost use Rattle.board_model.specs.Language.{told_by, refused};
+ghost use Rattle.board_model.specs.Language.{told_by, refused, IsLawfulBoard};
 ghost use Rattle.scenario_lang.specs.Refused.{IfRefused};
 ghost use Rattle.scenario_lang.specs.Telling.{fault_at};
 ghost use Rattle.scenario_lang.specs.LanguageLaws.{CanonicalIsReadBack};
@@ -27,6 +27,7 @@ pub fn read_scenario(alloc: Global, text: &[u8]) -> Result<Scenario, ScenarioFau
     ensures told { IfOk result (λ s. told_by text.now ≡ Ok s) }
     ensures refused { IfRefused result (λ line reason. told_by text.now ≡ Err (refused line reason)) }
     ensures few { IfOk result (λ s. length s.calls ≤ length text.now) }
+    ensures lawful { IfOk result IsLawfulBoard }
 {
     lines_told(alloc, text)
 }
