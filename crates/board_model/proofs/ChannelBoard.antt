@@ -3,7 +3,7 @@ use Rattle.board_model.proofs.PartReadings.{readings-append, readings-length}
 use Rattle.board_model.specs.Parts.{readings, part_after}
 use Rattle.board_model.proofs.PartRuns.{IsKnown, said_along}
 use Rattle.std.proofs.Common.{◌≡◌, ◌⊎◌, inl, inr, ℕ, ◌+◌, ◌<◌, ◌^◌, Bool, true, false, ◌&&◌, cond, List, [], ◌∷◌, ◌++◌, map, drop, length, find, Option, Some, None, refl, sym, ap, ◌∙◌, subst, arith}
-use Rattle.std.specs.Prelude.{◌==◌}
+use Rattle.std.specs.Prelude.{◌==◌, Contains}
 use Rattle.std.specs.List.{AllByRecursion, flat_map}
 use Rattle.std.proofs.lemmas.Bool.{and_parts, eqb-true, eq-eqb, ne_eqb, cases_Bool}
 use Rattle.std.proofs.lemmas.List.{drop_at}
@@ -17,8 +17,8 @@ use Rattle.board_model.specs.Traffic.{put_to, taken_from}
 use Rattle.board_model.specs.Board.{DomainJournal, journal_in, journal_of, LaneFits, IsBoardRun}
 use Rattle.board_model.specs.Deeds.{AllMayDo, along}
 use Rattle.board_model.specs.JournalDeeds.{deeds_of, opened}
-use Rattle.board_model.specs.Channels.{accepted_by, accepted_in, items_accepted, taken_on, items_taken, data_said, lost_in, items_dropped, queued_in, items_queued, data_on, items_in_ring, arrives, words_in}
-use Rattle.board_model.specs.ChannelLaws.{ChannelKept}
+use Rattle.board_model.specs.Channels.{accepted_by, accepted_in, items_accepted, taken_on, items_taken, data_said, lost_in, items_dropped, queued_in, items_queued, data_on, items_in_ring, arrives, words_in, named_by, named_in, domains_named}
+use Rattle.board_model.specs.ChannelLaws.{ChannelKept, EndsWhereNamed}
 use Rattle.board_model.proofs.BoardsLanes.{lane_between, IsBefore, AreInOrder, lanes-in-order, lane-found}
 use Rattle.board_model.proofs.ChannelLists.{letters-contents, takes-along}
 use Rattle.board_model.proofs.ChannelPair.{aim, nothing_from, passed, no_words}
@@ -283,13 +283,49 @@ module _ (s : Scenario) (js : List DomainJournal) (board : IsLinkedBoard s) (run
           by_lane q same other (inl none) = unheard q same other none
           by_lane q same other (inr (size, joined)) = on_lane q size joined same other (find (λ j. j.line.domain == q) js) refl
 
-          go : Aim (λ p. way_of not_begun (letters n (along (puts_by p) (opened s jo) (deeds_of s jo)))) (λ p. sent p) by_owner → ChannelKept s js o n
+          go : Aim (λ p. way_of not_begun (letters n (along (puts_by p) (opened s jo) (deeds_of s jo)))) (λ p. sent p) by_owner (along (named_by n) (opened s jo) (deeds_of s jo)) → ChannelKept s js o n
           go (no_aim way none empty) = none_sent none empty
-          go (aimed_at q begun same other) = by_lane q same (λ p far. (other p far).1) (on.0.from q)
+          go (aimed_at q begun same other named) = by_lane q same (λ p far. (other p far).1) (on.0.from q)
 
     kept_of : (o : ℕ) (x : Option DomainJournal) → find (λ j. j.line.domain == o) js ≡ x → ChannelKept s js o n
     kept_of o None found = unowned o found
     kept_of o (Some jo) found = subst (λ k. ChannelKept s js k n) (eqb-true jo.line.domain o (found-passes (λ j. j.line.domain == o) js jo found)) (owned jo (all-found Placed (λ j. j.line.domain == o) js jo placed found))
+
+    -- ---- the one domain at which the items are taken
+
+    module _ (jo : DomainJournal) (on : Placed jo) where
+      abbrev owner : ℕ
+      owner = jo.line.domain
+
+      abbrev named : List ℕ
+      named = along (named_by n) (opened s jo) (deeds_of s jo)
+
+      named_all : domains_named s js owner n ≡ named
+      named_all =
+          joined-one (named_in s owner n) (λ j. j.line.domain == owner) js jo (differ-one (λ (j : DomainJournal). j.line.domain) owner js domains_apart)
+          (all-any (λ j. (j.line.domain == owner) ≡ false → named_in s owner n j ≡ []) (λ j other. ap (λ b. cond b (along (named_by n) (opened s j) (deeds_of s j)) []) other) js) on.1
+          ∙ ap (λ b. cond b named []) (eq-eqb owner owner refl)
+
+      none_there : (j : DomainJournal) → Placed j → sent jo on j.line.domain ≡ [] → taken_on s owner n j ≡ []
+      none_there j at none = (quiet jo on j at none).taken
+
+      ends : EndsWhereNamed s js owner n
+      ends = go (aim owner n jo.line.nodes (neighbours s jo.line) (deeds_of s jo) on.0.may on.0.read on.0.few)
+        where
+          go : Aim (λ p. way_of not_begun (letters n (along (puts_by p) (opened s jo) (deeds_of s jo)))) (λ p. sent jo on p) (by_owner jo on) named → EndsWhereNamed s js owner n
+          go (no_aim way none empty) = inl (joined-none (taken_on s owner n) js (all-weaken Placed (λ j. taken_on s owner n j ≡ []) (λ j at. none_there j at (none j.line.domain)) js placed))
+          go (aimed_at q begun same other has) = inr (
+            q,
+            subst (λ qs. Contains qs q) (sym named_all) has,
+            all-weaken Placed (λ j. (j.line.domain == q) ≡ false → taken_on s owner n j ≡ []) (λ j at far. none_there j at (other j.line.domain far).1) js placed,
+          )
+
+    ends_of : (o : ℕ) (x : Option DomainJournal) → find (λ j. j.line.domain == o) js ≡ x → EndsWhereNamed s js o n
+    ends_of o None found = inl (joined-none (taken_on s o n) js (all-weaken Placed (λ j. taken_on s o n j ≡ []) (λ j on. (apart o found j on).0.taken) js placed))
+    ends_of o (Some jo) found = subst (λ k. EndsWhereNamed s js k n) (eqb-true jo.line.domain o (found-passes (λ j. j.line.domain == o) js jo found)) (ends jo (all-found Placed (λ j. j.line.domain == o) js jo placed found))
+
+  pub ends_where_named : AllByRecursion (JournalRun s) js → (owner : ℕ) → EndsWhereNamed s js owner n
+  ends_where_named runs owner = ends_of (all-with (JournalRun s) (IsFound js) Placed (λ j r found. (r, found)) js runs (differ-found (λ (j : DomainJournal). j.line.domain) js domains_apart)) owner (find (λ j. j.line.domain == owner) js) refl
 
   -- what is known of each journal is all that the law asks
   pub channel_kept : AllByRecursion (JournalRun s) js → (owner : ℕ) → ChannelKept s js owner n

@@ -11,11 +11,11 @@ use Rattle.board_model.specs.Answer.{holds, words_of}
 use Rattle.board_model.specs.Scenario.{Neighbour, neighbours}
 use Rattle.board_model.specs.LinkedBoard.{IsLinkedBoard}
 use Rattle.board_model.specs.Board.{DomainJournal, IsBoardRun}
-use Rattle.board_model.specs.ChannelLaws.{EveryChannelIsKept}
+use Rattle.board_model.specs.ChannelLaws.{EveryChannelIsKept, ChannelsEndWhereNamed}
 use Rattle.board_model.specs.Channels.{ClosesTellDropped}
 use Rattle.board_model.specs.Deeds.{Deed, looks_back, puts_owed, looks_ahead, takes, calls, after_deeds}
 use Rattle.board_model.specs.JournalDeeds.{deeds_of, opened, left_in}
-use Rattle.board_model.proofs.ChannelBoard.{JournalRun, channel_kept}
+use Rattle.board_model.proofs.ChannelBoard.{JournalRun, channel_kept, ends_where_named}
 use Rattle.board_model.proofs.DeedJoins.{after-join}
 use Rattle.board_model.proofs.DeedRuns.{frames_if, takes_by}
 use Rattle.board_model.proofs.HearingCloses.{run_closes}
@@ -94,3 +94,6 @@ module _ (s : Scenario) (js : List DomainJournal) (board : IsLinkedBoard s) (run
 
 pub every-channel-is-kept : EveryChannelIsKept
 every-channel-is-kept s js board run owner number = channel_kept s js board run number (each_runs s js board run) owner
+
+pub channels-end-where-named : ChannelsEndWhereNamed
+channels-end-where-named s js board run owner number = ends_where_named s js board run number (each_runs s js board run) owner

@@ -9,7 +9,7 @@ use Rattle.std.specs.List.{AllByRecursion, flat_map, list_any}
 use Rattle.std.proofs.lemmas.List.{append_assoc}
 use Rattle.mc_base.specs.Reading.{reading, Reading}
 use Rattle.mc_base.specs.declared.fate.Fate.{Fate}
-use Rattle.board_model.specs.Channels.{data_said, lost_by, words_by, arrives, accepted_by}
+use Rattle.board_model.specs.Channels.{data_said, lost_by, words_by, arrives, accepted_by, named_by}
 use Rattle.board_model.specs.Deeds.{Deed, takes, after_deed, AllMayDo, after_deeds, along}
 use Rattle.board_model.specs.Lists.{IsPrefix}
 use Rattle.board_model.specs.Scenario.{Neighbour}
@@ -91,8 +91,8 @@ module _ (o n nodes : ℕ) (at : List Neighbour) (sends : List Deed) where
     lane_data p = may_have p _ _ _ _ (run_out p).1
 
     -- they go on one lane
-    pub aim : Aim (λ p. way_of not_begun (letters n (put_on p))) (λ p. contents (letters n (put_on p))) (along (accepted_by n) sender sends)
-    aim = aim_run n sender sends (λ p. not_begun) (λ p. []) (λ p. []) [] may out (λ p. begin n p) (no_aim (λ p. refl) (λ p. refl) refl)
+    pub aim : Aim (λ p. way_of not_begun (letters n (put_on p))) (λ p. contents (letters n (put_on p))) (along (accepted_by n) sender sends) (along (named_by n) sender sends)
+    aim = aim_run n sender sends (λ p. not_begun) (λ p. []) (λ p. []) [] [] may out (λ p. begin n p) (no_aim (λ p. refl) (λ p. refl) refl)
 
     -- nothing of it is put where no frame came from
     pub nothing_from : (p : ℕ) → flat_map (takes_by p) sends ≡ [] → contents (letters n (put_on p)) ≡ []

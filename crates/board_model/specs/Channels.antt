@@ -11,8 +11,8 @@ use Rattle.mc_base.specs.declared.fate.Fate.{Fate}
 use Rattle.mc_base.specs.declared.fate.Fate.TheVariants.{Closed, Handed, Queued}
 use Rattle.board_model.specs.declared.scenario.Scenario.{Scenario}
 use Rattle.board_model.specs.Scenario.{Lane, lanes}
-use Rattle.board_model.specs.Journal.{agrees, tells}
-use Rattle.board_model.specs.DomainCall.{packet_from, scalar_from, close_at}
+use Rattle.board_model.specs.Journal.{agrees, tells, connects}
+use Rattle.board_model.specs.DomainCall.{connect_from, packet_from, scalar_from, close_at}
 use Rattle.board_model.specs.State.{Item, Endpoint, ChannelEnd, DomainState, live_at}
 use Rattle.board_model.specs.Answer.{local, channel_at}
 use Rattle.board_model.specs.Parts.{said_from}
@@ -38,6 +38,18 @@ accepted_in s owner number j = if j.line.domain == owner then along (accepted_by
 
 abbrev pub items_accepted : Scenario → List DomainJournal → ℕ → ℕ → List (List ℕ)
 items_accepted s js owner number = flat_map (accepted_in s owner number) js
+
+-- ---- named: the domains to which those of the owner's connects lead that were answered with the number
+
+abbrev pub named_by : ℕ → DomainState → Deed → List ℕ
+named_by number s (calls node (connect_from port to kind) (connects request channel)) = if channel == number then to.domain ∷ [] else []
+named_by number s other = []
+
+abbrev pub named_in : Scenario → ℕ → ℕ → DomainJournal → List ℕ
+named_in s owner number j = if j.line.domain == owner then along (named_by number) (opened s j) (deeds_of s j) else []
+
+abbrev pub domains_named : Scenario → List DomainJournal → ℕ → ℕ → List ℕ
+domains_named s js owner number = flat_map (named_in s owner number) js
 
 -- ---- items of the channel
 

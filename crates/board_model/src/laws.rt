@@ -10,7 +10,7 @@ ghost use Rattle.board_model.specs.MessageLaws.{
   NoMessageIsLost,
   CancelledRequestsTookNothing,
 };
-ghost use Rattle.board_model.specs.ChannelLaws.{EveryChannelIsKept};
+ghost use Rattle.board_model.specs.ChannelLaws.{EveryChannelIsKept, ChannelsEndWhereNamed};
 ghost use Rattle.board_model.specs.Fragments.{NoPartIsLost};
 ghost use Rattle.board_model.specs.Honesty.{KnownAddressesAreReal};
 ghost use Rattle.board_model.specs.ReadBack.{LettersAreReadBack};
@@ -74,6 +74,11 @@ pub fn no_message_is_lost()
 /// are queued or are in the ring. Where any were dropped, none are queued.
 pub fn every_channel_is_kept()
     ensures { EveryChannelIsKept }
+{}
+
+/// The items of a channel are taken at one domain, which the connect with its number named.
+pub fn channels_end_where_named()
+    ensures { ChannelsEndWhereNamed }
 {}
 
 /// No frame is stray, and an open part ends only by becoming whole.

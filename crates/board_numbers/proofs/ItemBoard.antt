@@ -11,7 +11,7 @@ use Rattle.board_model.specs.Journal.{joined}
 use Rattle.board_model.specs.Run.{start, left_by}
 use Rattle.board_model.specs.Traffic.{put_to}
 use Rattle.board_model.specs.Board.{DomainJournal, IsBoardRun}
-use Rattle.board_model.specs.Channels.{sent_over, accepted_by, accepted_in, items_accepted, taken_on, items_taken, data_said, is_lost, lost_by, lost_in, items_dropped, queued_in, items_queued, items_in_ring}
+use Rattle.board_model.specs.Channels.{sent_over, accepted_by, accepted_in, items_accepted, taken_on, items_taken, data_said, is_lost, lost_by, lost_in, items_dropped, queued_in, items_queued, items_in_ring, named_by}
 use Rattle.board_model.specs.Answer.{local}
 use Rattle.board_model.specs.CallChanges.{at_end, at_channel}
 use Rattle.board_model.specs.Journal.{PlainAnswer, agrees}
@@ -216,12 +216,12 @@ module _ (s : Scenario) (js : List DomainJournal) (board : IsLinkedBoard s) (run
     accepted_told : length by_owner ≡ count_by (is_item_put n) (joined jo.entries)
     accepted_told = go (aim o n jo.line.nodes (neighbours s jo.line) sends on.0.may on.0.read on.0.few)
       where
-        go : Aim (λ p. way_of not_begun (letters n (along (puts_by p) (opened s jo) sends))) (λ p. contents (letters n (along (puts_by p) (opened s jo) sends))) by_owner → length by_owner ≡ count_by (is_item_put n) (joined jo.entries)
+        go : Aim (λ p. way_of not_begun (letters n (along (puts_by p) (opened s jo) sends))) (λ p. contents (letters n (along (puts_by p) (opened s jo) sends))) by_owner (along (named_by n) (opened s jo) sends) → length by_owner ≡ count_by (is_item_put n) (joined jo.entries)
         go (no_aim way none empty) =
             let nothing : (p : ℕ) → items_on n (put_to p jo.entries) ≡ 0 = λ p. sent_is p ∙ ap (λ (xs : List (List ℕ)). length xs) (none p) in
             let told = items-put n 0 jo.entries (λ p far. nothing p) in
             ap (λ (xs : List (List ℕ)). length xs) empty ∙ (sym (nothing 0) ∙ sym told)
-        go (aimed_at q begun same other) =
+        go (aimed_at q begun same other named) =
             let told = items-put n q jo.entries (λ p far. sent_is p ∙ ap (λ (xs : List (List ℕ)). length xs) (other p far).1) in
             ap (λ (xs : List (List ℕ)). length xs) (sym same) ∙ (sym (sent_is q) ∙ sym told)
 
