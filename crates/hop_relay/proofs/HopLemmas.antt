@@ -1,0 +1,225 @@
+-- A log that fits the role of a domain between, call by call: the opening sends and receives nothing; after it, what is held is nothing, or
+-- the packet of the send that is due.
+use Rattle.std.proofs.Common.{◌≡◌, ℕ, zero, suc, ◌≤◌, nat_lt, Bool, true, false, cond, List, [], ◌∷◌, ◌++◌, length, drop, slice_get, Option, Some, None, refl, ap, sym, subst, ◌∙◌, arith, append_assoc, append-nil, length-append}
+use Rattle.std.specs.Prelude.{◌==◌}
+use Rattle.std.specs.List.{AllByRecursion}
+use Rattle.std.proofs.lemmas.List.{drop_at}
+use Rattle.std.proofs.lemmas.Grind.{flat_map-append}
+use Rattle.mc_base.specs.declared.refusal.Refusal.{Refusal}
+use Rattle.mc_base.specs.declared.refusal.Refusal.TheVariants.{ChanClosed}
+use Rattle.board_model.specs.declared.scenario.Call.{Call}
+use Rattle.board_model.specs.declared.scenario.Call.TheVariants.{OpenSend, PktRecv, PktSend, Release, CloseSend}
+use Rattle.board_model.specs.declared.scenario.CallLine.{CallLine}
+use Rattle.board_model.specs.Journal.{PlainAnswer, agrees, gives, refuses}
+use Rattle.board_model.specs.Logs.{LoggedCall}
+use Rattle.hop_relay.specs.Roles.{Role, middle, opening, sends, receives, send_line, due_after, due_in_opening, due_behind, due_by, due, last_after, last_call, is_refused, FitsFrom, FitsRole}
+use Rattle.hop_relay.specs.Hop.{received_by, sent_by, received, sent, held, SendsOn, IsHop}
+
+-- ---- what is held, by the line that is due
+
+abbrev NextCall : Call → List (List ℕ) → Type 0
+NextCall (PktSend port bytes) rest = (port ≡ 1) × (rest ≡ bytes ∷ [])
+NextCall (PktRecv port) rest = (port ≡ 2) × (rest ≡ [])
+NextCall other rest = rest ≡ []
+
+abbrev Next : Option CallLine → List (List ℕ) → Type 0
+Next None rest = length rest ≤ 1
+Next (Some line) rest = NextCall line.call rest
+
+few : (rest : List (List ℕ)) → rest ≡ [] → length rest ≤ 1
+few rest none = let n = ap length none in omega (arith, n)
+
+one : (rest : List (List ℕ)) (bytes : List ℕ) → rest ≡ bytes ∷ [] → length rest ≤ 1
+one rest bytes is = let n = ap length is in omega (arith, n)
+
+call_few : (call : Call) (rest : List (List ℕ)) → NextCall call rest → length rest ≤ 1
+call_few (PktSend port bytes) rest is = one rest bytes is.1
+call_few (PktRecv port) rest is = few rest is.1
+call_few call rest is = few rest is
+
+next_few : (o : Option CallLine) (rest : List (List ℕ)) → Next o rest → length rest ≤ 1
+next_few None rest next = next
+next_few (Some line) rest next = call_few line.call rest next
+
+-- ---- one call more
+
+-- what is held then
+record Moves (call : Call) (answer : PlainAnswer) (rest more : List (List ℕ)) : Type 0 where
+  lacks : rest ++ received_by call answer ≡ sent_by call answer ++ more
+
+stays : (call : Call) (answer : PlainAnswer) (rest : List (List ℕ)) → received_by call answer ≡ [] → sent_by call answer ≡ [] → Moves call answer rest rest
+stays call answer rest no_in no_out = record { lacks = ap (λ xs. rest ++ xs) no_in ∙ append-nil rest ∙ ap (λ xs. xs ++ rest) (sym no_out) }
+
+-- after the opening
+module _ (d most : ℕ) where
+  abbrev role : Role
+  role = middle d most
+
+  record Behind (n k : ℕ) (call : Call) (answer : PlainAnswer) (rest : List (List ℕ)) : Type 0 where
+    more : List (List ℕ)
+    moves : Moves call answer rest more
+    next : Next (due_after role n k call answer) more
+
+  sent_or_none : (b : Bool) (bytes : List ℕ) → Next (cond b None (Some (send_line d bytes))) (bytes ∷ [])
+  sent_or_none true bytes = omega arith
+  sent_or_none false bytes = (refl, refl)
+
+  refused : (n k port : ℕ) (w : Refusal) (rest : List (List ℕ)) → rest ≡ [] → Next (due_after role n k (PktRecv port) (refuses w)) rest
+  refused n k port ChanClosed rest none = none
+  refused n k port w rest none = few rest none
+
+  got : (n k port size : ℕ) (bytes : List ℕ) (rest : List (List ℕ)) → port ≡ 2 → rest ≡ [] → Behind n k (PktRecv port) (gives size bytes) rest
+  got n k port size bytes rest at none = record {
+    more = bytes ∷ [];
+    moves = record { lacks = ap (λ p. rest ++ cond (p == 2) (bytes ∷ []) []) at ∙ ap (λ xs. xs ++ bytes ∷ []) none };
+    next = sent_or_none (nat_lt most k) bytes;
+  }
+
+  put : (n k port : ℕ) (bytes : List ℕ) (rest : List (List ℕ)) → port ≡ 1 → rest ≡ bytes ∷ [] → Behind n k (PktSend port bytes) agrees rest
+  put n k port bytes rest at is = record {
+    more = [];
+    moves = record { lacks = append-nil rest ∙ is ∙ ap (λ p. cond (p == 1) (bytes ∷ []) [] ++ []) (sym at) };
+    next = refl;
+  }
+
+  behind : (n k : ℕ) (call : Call) (answer : PlainAnswer) (rest : List (List ℕ)) → NextCall call rest → Behind n k call answer rest
+  behind n k (PktSend port bytes) agrees rest is = put n k port bytes rest is.0 is.1
+  behind n k (PktSend port bytes) answer rest is = record { more = rest; moves = stays (PktSend port bytes) answer rest refl refl; next = one rest bytes is.1 }
+  behind n k (PktRecv port) (gives size bytes) rest is = got n k port size bytes rest is.0 is.1
+  behind n k (PktRecv port) (refuses w) rest is = record { more = rest; moves = stays (PktRecv port) (refuses w) rest refl refl; next = refused n k port w rest is.1 }
+  behind n k (PktRecv port) answer rest is = record { more = rest; moves = stays (PktRecv port) answer rest refl refl; next = few rest is.1 }
+  behind n k (OpenSend port kind) agrees rest is = record { more = rest; moves = stays (OpenSend port kind) agrees rest refl refl; next = (refl, is) }
+  behind n k (Release label) agrees rest is = record { more = rest; moves = stays (Release label) agrees rest refl refl; next = (refl, is) }
+  behind n k (CloseSend port) agrees rest is = record { more = rest; moves = stays (CloseSend port) agrees rest refl refl; next = is }
+  behind n k call answer rest is = record { more = rest; moves = stays call answer rest refl refl; next = few rest is }
+
+-- ---- in the opening
+
+-- neither a send nor a receive
+abbrev IsPlain : Call → Type 0
+IsPlain (PktSend port bytes) = ⊥
+IsPlain (PktRecv port) = ⊥
+IsPlain other = Unit {0}
+
+plain_next : (call : Call) (rest : List (List ℕ)) → IsPlain call → rest ≡ [] → NextCall call rest
+plain_next (PktSend port bytes) rest plain none = absurd plain
+plain_next (PktRecv port) rest plain none = absurd plain
+plain_next call rest plain none = none
+
+plain_none : (call : Call) (rest : List (List ℕ)) → IsPlain call → NextCall call rest → rest ≡ []
+plain_none (PktSend port bytes) rest plain is = absurd plain
+plain_none (PktRecv port) rest plain is = absurd plain
+plain_none call rest plain is = is
+
+plain_stays : (call : Call) (answer : PlainAnswer) (rest : List (List ℕ)) → IsPlain call → Moves call answer rest rest
+plain_stays (PktSend port bytes) answer rest plain = absurd plain
+plain_stays (PktRecv port) answer rest plain = absurd plain
+plain_stays call answer rest plain = stays call answer rest refl refl
+
+all_get : (lines : List CallLine) (i : ℕ) (line : CallLine) → AllByRecursion (λ l. IsPlain l.call) lines → slice_get lines i ≡ Some line → IsPlain line.call
+all_get [] i line all at = absurd cc
+all_get (x ∷ xs) zero line all at = let same : x ≡ line = cc in subst (λ (l : CallLine). IsPlain l.call) same all.0
+all_get (x ∷ xs) (suc i) line all at = all_get xs i line all.1 at
+
+-- a line comes before another
+before : (lines : List CallLine) (i : ℕ) (line : CallLine) → slice_get lines (suc i) ≡ Some line → (first : CallLine) × (slice_get lines i ≡ Some first)
+before [] i line at = absurd cc
+before (x ∷ xs) zero line at = (x, refl)
+before (x ∷ xs) (suc i) line at = before xs i line at
+
+in_opening : (x y : CallLine) (o : Option LoggedCall) → due_in_opening x o ≡ Some y → x ≡ y
+in_opening x y None e = cc
+in_opening x y (Some l) e = go (is_refused l.answer) e
+  where
+    go : (b : Bool) → cond b None (Some x) ≡ Some y → x ≡ y
+    go true e = absurd cc
+    go false e = cc
+
+-- ---- along a log
+
+last_more : (o : Option LoggedCall) (log : List LoggedCall) (l : LoggedCall) → last_after o (log ++ l ∷ []) ≡ Some l
+last_more o [] l = refl
+last_more o (m ∷ ms) l = last_more (Some m) ms l
+
+received_more : (log : List LoggedCall) (l : LoggedCall) → received (log ++ l ∷ []) ≡ received log ++ received_by l.line.call l.answer
+received_more log l = flat_map-append (λ (m : LoggedCall). received_by m.line.call m.answer) log (l ∷ []) ∙ ap (λ xs. received log ++ xs) (append-nil (received_by l.line.call l.answer))
+
+sent_more : (log : List LoggedCall) (l : LoggedCall) → sent (log ++ l ∷ []) ≡ sent log ++ sent_by l.line.call l.answer
+sent_more log l = flat_map-append (λ (m : LoggedCall). sent_by m.line.call m.answer) log (l ∷ []) ∙ ap (λ xs. sent log ++ xs) (append-nil (sent_by l.line.call l.answer))
+
+lacks_more : (log : List LoggedCall) (l : LoggedCall) (rest more : List (List ℕ)) → received log ≡ sent log ++ rest → Moves l.line.call l.answer rest more → received (log ++ l ∷ []) ≡ sent (log ++ l ∷ []) ++ more
+lacks_more log l rest more lacks moves =
+    received_more log l
+    ∙ ap (λ xs. xs ++ received_by l.line.call l.answer) lacks
+    ∙ append_assoc (sent log) rest (received_by l.line.call l.answer)
+    ∙ ap (λ xs. sent log ++ xs) moves.lacks
+    ∙ sym (append_assoc (sent log) (sent_by l.line.call l.answer) more)
+    ∙ ap (λ xs. xs ++ more) (sym (sent_more log l))
+
+module _ (d most : ℕ) where
+  abbrev lines : List CallLine
+  lines = opening (middle d most)
+
+  record Along (log : List LoggedCall) : Type 0 where
+    rest : List (List ℕ)
+    lacks : received log ≡ sent log ++ rest
+    next : Next (due (middle d most) log) rest
+
+  all_plain : AllByRecursion (λ l. IsPlain l.call) lines
+  all_plain = (tt, (tt, (tt, (tt, (tt, (tt, (tt, (tt, tt))))))))
+
+  along_more : (log : List LoggedCall) (l : LoggedCall) → Along log → due (middle d most) log ≡ Some l.line → Along (log ++ l ∷ [])
+  along_more log l a due_is = go (slice_get lines (length (log ++ l ∷ []))) refl
+    where
+      next : NextCall l.line.call a.rest
+      next = subst (λ o. Next o a.rest) due_is a.next
+
+      due_now : (o : Option CallLine) → slice_get lines (length (log ++ l ∷ [])) ≡ o → due (middle d most) (log ++ l ∷ []) ≡ due_by (middle d most) (log ++ l ∷ []) o
+      due_now o at = ap (due_by (middle d most) (log ++ l ∷ [])) at
+
+      plain : (line : CallLine) → slice_get lines (length (log ++ l ∷ [])) ≡ Some line → IsPlain l.line.call
+      plain line at =
+          let longer : length (log ++ l ∷ []) ≡ suc (length log) = omega (arith, length-append log (l ∷ [])) in
+          let first = before lines (length log) line (ap (slice_get lines) (sym longer) ∙ at) in
+          let same : first.0 ≡ l.line = in_opening first.0 l.line (last_call log) (sym (ap (due_by (middle d most) log) first.1) ∙ due_is) in
+          all_get lines (length log) l.line all_plain (first.1 ∙ ap (λ (x : CallLine). Some x) same)
+
+      opens : (line : CallLine) → IsPlain line.call → (rest : List (List ℕ)) → rest ≡ [] → (b : Bool) → Next (cond b None (Some line)) rest
+      opens line plain rest none true = few rest none
+      opens line plain rest none false = plain_next line.call rest plain none
+
+      go : (o : Option CallLine) → slice_get lines (length (log ++ l ∷ [])) ≡ o → Along (log ++ l ∷ [])
+      go (Some line) at =
+          let own = plain line at in
+          let none = plain_none l.line.call a.rest own next in
+          record {
+            rest = a.rest;
+            lacks = lacks_more log l a.rest a.rest a.lacks (plain_stays l.line.call l.answer a.rest own);
+            next = subst (λ o. Next o a.rest) (sym (due_now (Some line) at ∙ ap (due_in_opening line) (last_more None log l))) (opens line (all_get lines (length (log ++ l ∷ [])) line all_plain at) a.rest none (is_refused l.answer));
+          }
+      go None at =
+          let to = behind d most (sends (log ++ l ∷ [])) (receives (log ++ l ∷ [])) l.line.call l.answer a.rest next in
+          record {
+            rest = to.more;
+            lacks = lacks_more log l a.rest to.more a.lacks to.moves;
+            next = subst (λ o. Next o to.more) (sym (due_now None at ∙ ap (due_behind (middle d most) (log ++ l ∷ [])) (last_more None log l))) to.next;
+          }
+
+  along_from : (first log : List LoggedCall) → Along first → FitsFrom (middle d most) first log → Along (first ++ log)
+  along_from first [] a fits = subst Along (sym (append-nil first)) a
+  along_from first (l ∷ ls) a fits = subst Along (append_assoc first (l ∷ []) ls) (along_from (first ++ l ∷ []) ls (along_more first l a fits.0) fits.1)
+
+  front_fits : (first front back : List LoggedCall) → FitsFrom (middle d most) first (front ++ back) → FitsFrom (middle d most) first front
+  front_fits first [] back fits = tt
+  front_fits first (l ∷ ls) back fits = (fits.0, front_fits (first ++ l ∷ []) ls back fits.1)
+
+sends_on : (log : List LoggedCall) (rest : List (List ℕ)) → received log ≡ sent log ++ rest → length rest ≤ 1 → SendsOn log
+sends_on log rest lacks few =
+    let is : held log ≡ rest = ap (drop (length (sent log))) lacks ∙ drop_at (sent log) rest (length (sent log)) refl in
+    record { kept = lacks ∙ ap (λ xs. sent log ++ xs) (sym is); few = subst (λ xs. length xs ≤ 1) (sym is) few }
+
+pub is_hop : (d most : ℕ) (log : List LoggedCall) → FitsRole (middle d most) log → IsHop log
+is_hop d most log fits front back is =
+    let own : FitsRole (middle d most) front = front_fits d most [] front back (subst (FitsRole (middle d most)) is fits) in
+    let a = along_from d most [] front (record { rest = []; lacks = refl; next = refl }) own in
+    sends_on front a.rest a.lacks (next_few (due (middle d most) front) a.rest a.next)
