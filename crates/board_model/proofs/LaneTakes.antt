@@ -13,7 +13,7 @@ use Rattle.mc_base.specs.declared.fate.Fate.{Fate}
 use Rattle.mc_base.specs.declared.fate.Fate.TheVariants as fate
 use Rattle.board_model.specs.DomainCall.{DomainCall}
 use Rattle.board_model.specs.CallChanges.{call_changes, effect}
-use Rattle.board_model.specs.Parts.{Came, Coming, coming_so, grown, alone, begun, with_piece, goes_on, coming, part_of, coming_from, said_from, came_from, names_before, names_ended, named_so, held_if, held_by}
+use Rattle.board_model.specs.Parts.{Came, Coming, coming_so, grown, alone, begins, begun, with_piece, goes_on, coming, part_of, coming_from, said_from, came_from, names_before, names_ended, named_so, held_if, held_by}
 use Rattle.board_model.specs.Returns.{names_given, given_by_frame, given_at_once}
 use Rattle.board_model.specs.Turn.{takes_named}
 use Rattle.mc_base.specs.declared.refusal.Refusal.{Refusal}
@@ -201,7 +201,11 @@ grown_brings joins p q = go (length (p.content ++ q.content) == p.total)
     go false is = (p.source, p.destination, q, refl)
 
 alone_brings : (a b : ℕ) (q : Piece) → OpenBrings (alone a b q)
-alone_brings a b q is = absurd cc
+alone_brings a b q = go (begins q)
+  where
+    go : (x : Bool) → OpenBrings (cond x (grown false (begun a b q) q) (coming_so (brings a b q) None false))
+    go true is = grown_brings false (begun a b q) q is
+    go false is = absurd cc
 
 coming_brings : (o : Option Part) (r : Reading) → OpenBrings (coming o r)
 coming_brings None (brings a b q) is = alone_brings a b q is

@@ -5,7 +5,7 @@ use Rattle.mc_base.specs.Letter.{Carrier, of_message, of_packet, carried, Piece,
 use Rattle.mc_base.specs.Reading.{Reading, is_faulty, announces, says, brings, reading}
 use Rattle.mc_base.specs.Pieces.{parts_from}
 use Rattle.board_model.specs.State.{Part}
-use Rattle.board_model.specs.Parts.{same_carrier, goes_on, Coming, coming_so, begun, with_piece, grown, alone, piece_coming, coming, readings, part_after}
+use Rattle.board_model.specs.Parts.{same_carrier, goes_on, Coming, coming_so, begun, begins, with_piece, grown, alone, piece_coming, coming, readings, part_after}
 use Rattle.std.proofs.lemmas.Bool.{cond_both, eq-eqb, ne_eqb}
 
 -- ---- lists that are joined
@@ -26,7 +26,7 @@ module _ (P : Reading → Type 0) (whole : (s d : ℕ) (k : Carrier) (bytes : Li
   grown_holds joins p q = cond_both (length (p.content ++ q.content) == p.total) (coming_so (says p.source p.destination (carried p.carrier (p.content ++ q.content))) None joins) (coming_so (brings p.source p.destination q) (Some (with_piece p q)) joins) (λ c. P c.reading) (λ e. whole p.source p.destination p.carrier (p.content ++ q.content)) (λ e. part p.source p.destination q)
 
   alone_holds : (s d : ℕ) (q : Piece) → P (alone s d q).reading
-  alone_holds s d q = part s d q
+  alone_holds s d q = cond_both (begins q) (grown false (begun s d q) q) (coming_so (brings s d q) None false) (λ c. P c.reading) (λ e. grown_holds false (begun s d q) q) (λ e. part s d q)
 
   piece_holds : (o : Option Part) (s d : ℕ) (q : Piece) → P (piece_coming o s d q).reading
   piece_holds None s d q = alone_holds s d q

@@ -7,7 +7,7 @@ use Rattle.mc_base.specs.Letter.{PlainLetter, msg, connect, accept, reject, recv
 use Rattle.mc_base.specs.Pieces.{parts_of, item_spellings, spellings, frames_needed}
 use Rattle.mc_base.specs.Reading.{Reading, is_faulty, announces, says, brings, reading}
 use Rattle.board_model.specs.State.{DomainState}
-use Rattle.board_model.specs.Parts.{Came, coming, coming_so, named_so, part_of, coming_from, said_from, came_by, came_from}
+use Rattle.board_model.specs.Parts.{Came, begins, coming, coming_so, named_so, part_of, coming_from, said_from, came_by, came_from}
 use Rattle.board_model.specs.Change.{frame_taken}
 use Rattle.board_model.specs.Deeds.{taken_change}
 use Rattle.board_model.specs.TakenFrames.{row_of, row_from}
@@ -17,6 +17,7 @@ use Rattle.board_model.specs.State.{held_of}
 -- ---- taken frames
 
 pub coming-alone : (r : Reading) → coming None r ≡ coming_so r None false
+unfolding begins
 coming-alone (is_faulty f) = refl
 coming-alone (announces text a there) = refl
 coming-alone (says source destination l) = refl

@@ -39,9 +39,13 @@ grown joins p q =
     if length (p.content ++ q.content) == p.total then coming_so (says p.source p.destination (carried p.carrier (p.content ++ q.content))) None joins
     else coming_so (brings p.source p.destination q) (Some (with_piece p q)) joins
 
--- a piece that goes on with nothing is stray: a domain begins no part
+-- whether a piece begins a part: none does yet
+unfoldable pub begins : Piece → Bool
+begins q = false
+
+-- a piece that goes on with nothing begins a part, or is stray
 abbrev pub alone : ℕ → ℕ → Piece → Coming
-alone source destination q = coming_so (brings source destination q) None false
+alone source destination q = if begins q then grown false (begun source destination q) q else coming_so (brings source destination q) None false
 
 abbrev pub piece_coming : Option Part → ℕ → ℕ → Piece → Coming
 piece_coming None source destination q = alone source destination q

@@ -5,7 +5,7 @@ use Rattle.std.proofs.lemmas.Bool.{and_parts}
 use Rattle.mc_base.specs.Letter.{Carrier, of_message, of_packet, carried, Piece, PlainLetter, packet, scalar}
 use Rattle.mc_base.specs.Reading.{Reading, is_faulty, announces, says, brings, reading}
 use Rattle.board_model.specs.Channels.{data_said, is_numbered}
-use Rattle.board_model.specs.Parts.{same_carrier, goes_on, coming_so, with_piece, grown, alone, coming, readings}
+use Rattle.board_model.specs.Parts.{same_carrier, goes_on, coming_so, begins, with_piece, grown, alone, coming, readings}
 use Rattle.board_model.specs.State.{Part}
 use Rattle.board_model.proofs.KeptLines.{IsHeld}
 use Rattle.board_model.proofs.ListsCounts.{one_if, count-cons}
@@ -52,8 +52,12 @@ module _ (n : ℕ) where
       go true e = carried_says p.source p.destination p.carrier (p.content ++ q.content) ∙ (ap (λ x. one_if (is_numbered n x)) same ∙ ap (λ b. one_if (is_numbered n (cond b (item_carrier q.carrier) None))) e)
       go false e = ap (λ b. one_if (is_numbered n (cond b (item_carrier q.carrier) None))) e
 
+  alone_says : (source destination : ℕ) (q : Piece) → IsHeld (alone source destination q) → Says (alone source destination q).reading (cond (is_last q) (item_carrier q.carrier) None)
+  unfolding begins
+  alone_says source destination q held = let clash : false ≡ true = held refl in absurd cc
+
   piece_says : (o : Option Part) (source destination : ℕ) (q : Piece) → IsHeld (coming o (brings source destination q)) → Says (coming o (brings source destination q)).reading (item_said (brings source destination q))
-  piece_says None source destination q held = let clash : false ≡ true = held refl in absurd cc
+  piece_says None source destination q held = alone_says source destination q held
   piece_says (Some p) source destination q held = go (goes_on p source destination q) refl held
     where
       go : (b : Bool) → goes_on p source destination q ≡ b → IsHeld (cond b (grown true p q) (alone source destination q)) → Says (cond b (grown true p q) (alone source destination q)).reading (item_said (brings source destination q))
@@ -63,7 +67,7 @@ module _ (n : ℕ) where
           let by = and_parts (same_carrier p.carrier q.carrier) (p.total == q.total && length p.content == q.offset) to.1 in
           let at = and_parts (p.total == q.total) (length p.content == q.offset) by.1 in
           grown_says true p q (same_item p.carrier q.carrier by.0) (eqb-true (length p.content) q.offset at.1) (eqb-true p.total q.total at.0)
-      go false is k = let clash : false ≡ true = k refl in absurd cc
+      go false is k = alone_says source destination q k
 
   -- ---- a frame, with the part that is open before it, and frames one after the other
 

@@ -11,7 +11,7 @@ use Rattle.mc_base.specs.LetterFaults.{fields_in, total_in}
 use Rattle.mc_base.specs.Reading.{Reading, is_faulty, announces, says, brings, kind_numbered, reason_numbered, bits_of_bytes, letter_of, piece_of, said_in, announced_in, reading_by, reading}
 use Rattle.mc_base.specs.declared.fault.Fault.{Fault}
 use Rattle.board_model.specs.State.{Part}
-use Rattle.board_model.specs.Parts.{Coming, coming, coming_so, alone, goes_on, grown, with_piece}
+use Rattle.board_model.specs.Parts.{Coming, coming, coming_so, alone, begins, begun, goes_on, grown, with_piece}
 use Rattle.board_model.proofs.MessageAlls.{all-append, all-drop}
 use Rattle.mc_journal.specs.EntryText.{AreBytes}
 use Rattle.report_laws.proofs.FramesFit.{all-take}
@@ -149,13 +149,20 @@ grown-fits joins p q open_fits fits = go (length (p.content ++ q.content) == p.t
         record { reading = carried-fits p.carrier (p.content ++ q.content) (record { size = omega (arith, whole, open_fits.0); all = all }); part = tt }
     go false is = record { reading = fits; part = (open_fits.0, all) }
 
+alone-fits : (source destination : ℕ) (q : Piece) → FitsPiece q → FitsComing (alone source destination q)
+alone-fits source destination q fits = go (begins q)
+  where
+    go : (b : Bool) → FitsComing (cond b (grown false (begun source destination q) q) (coming_so (brings source destination q) None false))
+    go true = grown-fits false (begun source destination q) q (fits.total, tt) fits
+    go false = record { reading = fits; part = tt }
+
 piece-fits : (o : Option Part) (source destination : ℕ) (q : Piece) → FitsPart o → FitsPiece q → FitsComing (coming o (brings source destination q))
-piece-fits None source destination q open_fits fits = record { reading = fits; part = tt }
+piece-fits None source destination q open_fits fits = alone-fits source destination q fits
 piece-fits (Some p) source destination q open_fits fits = go (goes_on p source destination q)
   where
     go : (b : Bool) → FitsComing (cond b (grown true p q) (alone source destination q))
     go true = grown-fits true p q open_fits fits
-    go false = record { reading = fits; part = tt }
+    go false = alone-fits source destination q fits
 
 pub coming-fits : (o : Option Part) (r : Reading) → FitsPart o → FitsReading r → FitsComing (coming o r)
 coming-fits o (brings source destination q) open_fits fits = piece-fits o source destination q open_fits fits
