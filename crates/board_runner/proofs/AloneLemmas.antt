@@ -68,17 +68,17 @@ module _ (old : List Station) (at : ℕ) (st : Station) (d : RunDomain) (j : Wri
     alone_board = record {
       scenario = s;
       lawful = some.lawful;
-      stands = board-moved s some.lawful old at st then (run-board s some.run old some.stands) is number refl peers (turn_moves turn.visits turn.numbers) turn.turns.moved;
+      stands = board-moved s some.lawful old at st then (run-board s some.run old some.stands) is number refl peers (turn_moves st.domain.numbered turn.visits turn.numbers) turn.turns.moved;
     }
 
     pub alone_but : CarriedBut at mid
-    alone_but = carried-but s some.lawful old at st then (run-board s some.run old some.stands) is number refl peers (turn_moves turn.visits turn.numbers) turn.turns.moved carried
+    alone_but = carried-but s some.lawful old at st then (run-board s some.run old some.stands) is number refl peers (turn_moves st.domain.numbered turn.visits turn.numbers) turn.turns.moved carried
 
     -- an idle turn did nothing
     pub alone_still : idle ≡ true → AllCarried mid
     alone_still e =
-        carried-still s some.lawful old at st then (run-board s some.run old some.stands) is number refl peers (turn_moves turn.visits turn.numbers) turn.turns.moved carried
-        (idle-stays st.domain.ends turn.visits turn.numbers d.ends (sym turn.idle_is ∙ e) turn.turns.moved)
+        carried-still s some.lawful old at st then (run-board s some.run old some.stands) is number refl peers (turn_moves st.domain.numbered turn.visits turn.numbers) turn.turns.moved carried
+        (idle-stays st.domain.numbered st.domain.ends turn.visits turn.numbers d.ends (sym turn.idle_is ∙ e) turn.turns.moved)
 
   -- where what it knows is true its turn is that of the run
   pub turns_truly : KnowsTrulyAt at mid → TurnsOnce at old mid
@@ -86,7 +86,7 @@ module _ (old : List Station) (at : ℕ) (st : Station) (d : RunDomain) (j : Wri
       turns_by (λ s r lawful h.
       let board = lawful_is_linked s lawful in
       exact-turn st.domain d turn.visits turn.numbers turn.turns (matched-here s board r old h at st is) (peers-differ s board r old h at st is) (near (domains_in old)) (come-here s board r old h at st is carried)
-      (true-here s lawful old at st then (run-board s r old h) is number refl peers (turn_moves turn.visits turn.numbers) turn.turns.moved truly))
+      (true-here s lawful old at st then (run-board s r old h) is number refl peers (turn_moves st.domain.numbered turn.visits turn.numbers) turn.turns.moved truly))
 
   -- and so it is where it is idle
   pub turns_idly : idle ≡ true → TurnsOnce at old mid

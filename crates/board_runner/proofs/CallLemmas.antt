@@ -27,7 +27,6 @@ use Rattle.board_model.specs.Run.{after_all}
 use Rattle.board_model.specs.SerialRun as run
 use Rattle.board_model.specs.SerialRun.{word_in, loads_with_puts}
 use Rattle.board_model.specs.Tallies.{deleted_in, deletes_line, number_told}
-use Rattle.board_model.proofs.ClosedStates.{closed-all}
 use Rattle.board_model.proofs.DeedJoins.{changes-keep}
 use Rattle.board_model.proofs.ListsJoined.{entry_lines, JoinsWeighNothing, sum-joined}
 use Rattle.board_model.proofs.WholeStations.{entered_all}
@@ -199,7 +198,6 @@ module _ (s : Scenario) (t : run.Station) (line : CallLine) (st called_to new : 
     dropped = dropped_after;
     domain_number = notes.domain_number ∙ h.domain_number ∙ h.stands.domain_number;
     own = ap (λ (r : RunState). r.state.number) leads ∙ changes-keep (λ (y : DomainState). y.number) (λ y c. refl) t.run.state (call_changes t.run.state line.node (call_at t.run line)) ∙ h.stands.own;
-    closed = closed-all (script s t.line.domain) t.run entries h.stands.closed;
     peers = ap peers_of notes.domain ∙ h.peers ∙ h.stands.peers;
     matched = subst (λ d. EndsMatch t.line.domain (peers_of d) d.ends) (sym notes.domain) (subst (λ n. EndsMatch n (peers_of called_to.domain) called_to.domain.ends) (ap (λ (x : DomainState). x.number) h.stands.state ∙ h.stands.own) h.matched);
   }
@@ -313,7 +311,6 @@ module _ (s : Scenario) (t : run.Station) (line : CallLine) (st called_to new : 
     dropped = dropped_again;
     domain_number = notes.domain_number ∙ h.domain_number ∙ h.stands.domain_number;
     own = h.stands.own;
-    closed = h.stands.closed;
     peers = ap peers_of notes.domain ∙ h.peers ∙ h.stands.peers;
     matched = subst (λ d. EndsMatch t.line.domain (peers_of d) d.ends) (sym notes.domain) (subst (λ n. EndsMatch n (peers_of called_to.domain) called_to.domain.ends) (ap (λ (x : DomainState). x.number) h.stands.state ∙ h.stands.own) h.matched);
   }

@@ -121,8 +121,8 @@ true-called x y far after h = record {
 
 -- ---- visits after which the domain knows no more than what is true
 
-pub exact-of : (v : Visit) (old new far : Near) → LinkVisited v old new → HasCome far old → IsTrue new far → Exact v old far
-exact-of v old new far visited come truly = record {
+pub exact-of : (gave : ℕ) (v : Visit) (old new far : Near) → LinkVisited gave v old new → HasCome far old → IsTrue new far → Exact v old far
+exact-of gave v old new far visited come truly = record {
   rest = truly.taken.0;
   first = truly.taken.1 ∙ ap (λ (fs : List (List ℕ)). fs ++ truly.taken.0) visited.got.taken;
   see = let a = visited.got.low in let b = visited.got.high in let c = come.put in let d = truly.come in omega (arith, a, b, c, d);
@@ -144,7 +144,7 @@ module _ (d d' : RunDomain) (visits : List Visit) (numbers : List (List ℕ)) (t
   pub exact-turn : ((p : ℕ) → p ≢ d.state.number → IsTrue (near_of d' p) (far p d.state.number)) → AllByRecursion (ExactAt far d) visits
   exact-turn truly =
       all-weaken (VisitedAt d d') (ExactAt far d)
-      (λ v visited e. exact-of v (near_of d v.peer) (near_of d' v.peer) (far v.peer d.state.number) (visited e) (come v.peer) (truly v.peer (not_same v.peer d.state.number e))) visits (visits-told d d' visits numbers turns matched differ)
+      (λ v visited e. exact-of (visited e).0 v (near_of d v.peer) (near_of d' v.peer) (far v.peer d.state.number) (visited e).1 (come v.peer) (truly v.peer (not_same v.peer d.state.number e))) visits (visits-told d d' visits numbers turns matched differ)
 
   -- ---- idle visits, by what was there before them
 
@@ -156,8 +156,8 @@ module _ (d d' : RunDomain) (visits : List Visit) (numbers : List (List ℕ)) (t
   both_true true y e = (refl, e)
   both_true false y e = absurd cc
 
-  idle_exact : (v : Visit) (old new there : Near) (frames : List (List ℕ)) (returned : ℕ) → is_idle v ≡ true → LinkVisited v old new → HasCome there old → there.sent.put ≡ old.got.taken ++ frames → there.got.given ≡ old.sent.back + returned → Exact v old there
-  idle_exact v old new there frames returned idle visited come put given =
+  idle_exact : (gave : ℕ) (v : Visit) (old new there : Near) (frames : List (List ℕ)) (returned : ℕ) → is_idle v ≡ true → LinkVisited gave v old new → HasCome there old → there.sent.put ≡ old.got.taken ++ frames → there.got.given ≡ old.sent.back + returned → Exact v old there
+  idle_exact gave v old new there frames returned idle visited come put given =
       let back = both_true (v.back == 0) (length v.owed == 0 && (v.see == 0 && length v.takes == 0)) idle in
       let owed = both_true (length v.owed == 0) (v.see == 0 && length v.takes == 0) back.1 in
       let see = both_true (v.see == 0) (length v.takes == 0) owed.1 in
@@ -179,7 +179,7 @@ module _ (d d' : RunDomain) (visits : List Visit) (numbers : List (List ℕ)) (t
   pub exact-idle : list_all is_idle visits ≡ true → AllByRecursion (λ v. StoodBy far d v.peer) visits → AllByRecursion (ExactAt far d) visits
   exact-idle idle stood =
       all-with (λ v. (is_idle v ≡ true) × StoodBy far d v.peer) (VisitedAt d d') (ExactAt far d)
-      (λ v is visited e. idle_exact v (near_of d v.peer) (near_of d' v.peer) (far v.peer d.state.number) is.1.frames is.1.returned is.0 (visited e) (come v.peer) is.1.put is.1.given) visits
+      (λ v is visited e. idle_exact (visited e).0 v (near_of d v.peer) (near_of d' v.peer) (far v.peer d.state.number) is.1.frames is.1.returned is.0 (visited e).1 (come v.peer) is.1.put is.1.given) visits
       (all-with (λ v. is_idle v ≡ true) (λ v. StoodBy far d v.peer) (λ v. (is_idle v ≡ true) × StoodBy far d v.peer) (λ v a b. (a, b)) visits (all_idle visits idle) stood) (visits-told d d' visits numbers turns matched differ)
 
 -- ---- at a station of a run

@@ -1,4 +1,5 @@
 -- The two ends of a lane fit together by what their domains' journals tell: over a finished ring, and on a lane to oneself.
+use Rattle.std.specs.Prelude.{◌==◌, Some}
 use Rattle.std.proofs.Common.{◌≡◌, ℕ, ◌+◌, ◌≤◌, Bool, true, false, cond, List, [], ◌∷◌, ◌++◌, length, map, flat_map, drop, sum, slice_index, sym, ap, ◌∙◌, subst, arith, append_assoc, append-nil, length-append}
 use Rattle.std.proofs.lemmas.List.{map-append, length-map}
 use Rattle.std.proofs.lemmas.List.Sums.{sum_by-cons}
@@ -12,21 +13,23 @@ use Rattle.lane_end.specs.ReceiveParts.{frames_taken, numbers_given}
 use Rattle.lane_end.specs.Loop.{Loop, new_loop}
 use Rattle.lane_end.specs.LaneRun.{IsLaneRun, SeesAtMost as SeeMovesAtMost}
 use Rattle.board_model.specs.declared.scenario.CallLine.{CallLine}
-use Rattle.board_model.specs.ClosedStates.{IsClosed}
-use Rattle.board_model.specs.Dealing.{keeps_buffer}
+use Rattle.board_model.specs.Deeds.{after_deed, takes}
 use Rattle.board_model.specs.Journal.{PlainEntry, turned, put, again, waits, called, Visit, Taken}
 use Rattle.board_model.specs.Lists.{IsPrefix}
-use Rattle.board_model.specs.State.{frames_from}
+use Rattle.board_model.specs.Returns.{given_by_frame}
+use Rattle.board_model.specs.State.{DomainState, frames_from}
 use Rattle.board_model.specs.Step.{RunState, next_line, after}
 use Rattle.board_model.specs.Traffic.{visits_to, puts_in, takes_in, put_to, taken_from, returned_by, given, back_looks}
 use Rattle.board_model.specs.Board.{SeeAtMost, SeesAtMost}
+use Rattle.board_model.specs.Turn.{after_visit}
 use Rattle.domain_core.specs.LaneMoves.{LaneMove, sender, receiver, sends, receives}
 use Rattle.domain_core.specs.LinkMoved.{receives-append}
 use Rattle.domain_core.specs.LoopMoved.{LoopMoved, loop_after}
-use Rattle.domain_core.specs.VisitMoves.{taking}
-use Rattle.board_runner.specs.OwnRun.{unnumbered, visit_told, moves_told}
-use Rattle.board_runner.proofs.NearEnds.{contents, first-came, receives_putting}
-use Rattle.board_runner.proofs.ToldTraffic.{HasTraffic, has_traffic, zeros, zeros_many, visit_receives, goes_back}
+use Rattle.domain_core.specs.VisitMoves.{before_takes, giving, taking}
+use Rattle.board_runner.specs.OwnRun.{unnumbered, visit_told, turn_told, moves_told}
+use Rattle.board_runner.proofs.NearEnds.{contents, first-came, receives_putting, visit_taking}
+use Rattle.board_runner.proofs.ToldTraffic.{HasTraffic, has_traffic, zeros_many, visit_receives, goes_back}
+use Rattle.board_runner.proofs.Unnumbered.{zeros}
 
 -- ---- how much the looks at frames show
 
@@ -38,33 +41,46 @@ unnumbered_sees total t (receiver (Took n f) ∷ ms) h = unnumbered_sees total (
 unnumbered_sees total t (receiver (Gave n) ∷ ms) h = unnumbered_sees total t ms h
 
 -- past the frames that are taken
-past_taking : (total t : ℕ) (ns : List ℕ) (ts : List Taken) (xs : List ReceiveMove) → length ns ≡ length ts → SeeMovesAtMost total t (receives (taking ns ts) ++ xs) → SeeMovesAtMost total (t + length ts) xs
-past_taking total t [] [] xs each h = let same : t ≡ t + 0 = omega arith in subst (λ (k : ℕ). SeeMovesAtMost total k xs) same h
-past_taking total t [] (u ∷ ts) xs each h = absurd (omega (arith, each))
-past_taking total t (n ∷ ns) [] xs each h = absurd (omega (arith, each))
-past_taking total t (n ∷ ns) (u ∷ ts) xs each h =
+past_giving : (total t : ℕ) (gs : List ℕ) (ms : List LaneMove) (xs : List ReceiveMove) → SeeMovesAtMost total t (receives (giving gs ++ ms) ++ xs) → SeeMovesAtMost total t (receives ms ++ xs)
+past_giving total t [] ms xs h = h
+past_giving total t (g ∷ gs) ms xs h = past_giving total t gs ms xs h
+
+past_taking : (total t : ℕ) (s : DomainState) (peer : ℕ) (ns : List ℕ) (ts : List Taken) (xs : List ReceiveMove) → length ns ≡ length ts → SeeMovesAtMost total t (receives (taking s peer ns ts) ++ xs) → SeeMovesAtMost total (t + length ts) xs
+past_taking total t s peer [] [] xs each h = let same : t ≡ t + 0 = omega arith in subst (λ (k : ℕ). SeeMovesAtMost total k xs) same h
+past_taking total t s peer [] (u ∷ ts) xs each h = absurd (omega (arith, each))
+past_taking total t s peer (n ∷ ns) [] xs each h = absurd (omega (arith, each))
+past_taking total t s peer (n ∷ ns) (u ∷ ts) xs each h =
+    let now = after_deed s (takes peer (Some n) u.frame u.fate) in
     let more : (t + 1) + length ts ≡ t + length (u ∷ ts) = omega arith in
-    subst (λ (k : ℕ). SeeMovesAtMost total k xs) more (past_taking total (t + 1) ns ts xs (omega (arith, each)) (go (keeps_buffer u.fate) h))
-  where
-    go : (b : Bool) → SeeMovesAtMost total (t + 1) (receives (cond b [] (receiver (Gave n) ∷ []) ++ taking ns ts) ++ xs) → SeeMovesAtMost total (t + 1) (receives (taking ns ts) ++ xs)
-    go true h = h
-    go false h = h
+    subst (λ (k : ℕ). SeeMovesAtMost total k xs) more (past_taking total (t + 1) now peer ns ts xs (omega (arith, each)) (past_giving total (t + 1) (given_by_frame s peer (Some n) u.frame u.fate) (taking now peer ns ts) xs h))
+
+-- past a visit
+past_visit : (total t : ℕ) (s : DomainState) (v : Visit) (ms : List LaneMove) (xs : List ReceiveMove) → SeeMovesAtMost total t (receives (visit_told s v ++ ms) ++ xs) → (v.see + t ≤ total) × SeeMovesAtMost total (t + length v.takes) (receives ms ++ xs)
+past_visit total t s v ms xs h =
+    let took = visit_taking s v (zeros v.takes) in
+    let later = receives ms ++ xs in
+    let split : receives (visit_told s v ++ ms) ++ xs ≡ receiving.Looked v.see ∷ (receives took ++ later) =
+    ap (λ (ys : List ReceiveMove). ys ++ xs) (receives-append (visit_told s v) ms ∙ ap (λ (ys : List ReceiveMove). ys ++ receives ms) (visit_receives s v)) ∙ append_assoc (receiving.Looked v.see ∷ receives took) (receives ms) xs in
+    let first = subst (SeeMovesAtMost total t) split h in
+    (first.0, past_taking total t (before_takes s v) v.peer (zeros v.takes) v.takes later (zeros_many v.takes) first.1)
 
 record PastVisits (total t : ℕ) (vs : List Visit) (xs : List ReceiveMove) : Type 0 where
   sees : SeeAtMost total t vs
   rest : SeeMovesAtMost total (t + length (flat_map (λ v. v.takes) vs)) xs
 
-past_visits : (total t : ℕ) (vs : List Visit) (xs : List ReceiveMove) → SeeMovesAtMost total t (receives (flat_map visit_told vs) ++ xs) → PastVisits total t vs xs
-past_visits total t [] xs h = let same : t ≡ t + 0 = omega arith in record { sees = tt; rest = subst (λ (k : ℕ). SeeMovesAtMost total k xs) same h }
-past_visits total t (v ∷ vs) xs h =
-    let later = receives (flat_map visit_told vs) ++ xs in
-    let split : receives (flat_map visit_told (v ∷ vs)) ++ xs ≡ receiving.Looked v.see ∷ (receives (taking (zeros v.takes) v.takes) ++ later) =
-    ap (λ (ms : List ReceiveMove). ms ++ xs) (receives-append (visit_told v) (flat_map visit_told vs) ∙ ap (λ (ms : List ReceiveMove). ms ++ receives (flat_map visit_told vs)) (visit_receives v))
-    ∙ append_assoc (receiving.Looked v.see ∷ receives (taking (zeros v.takes) v.takes)) (receives (flat_map visit_told vs)) xs in
-    let first = subst (SeeMovesAtMost total t) split h in
-    let more = past_visits total (t + length v.takes) vs xs (past_taking total t (zeros v.takes) v.takes later (zeros_many v.takes) first.1) in
-    let same : (t + length v.takes) + length (flat_map (λ (u : Visit). u.takes) vs) ≡ t + length (flat_map (λ (u : Visit). u.takes) (v ∷ vs)) = omega (arith, length-append v.takes (flat_map (λ (u : Visit). u.takes) vs)) in
-    record { sees = (first.0, more.sees); rest = subst (λ (k : ℕ). SeeMovesAtMost total k xs) same more.rest }
+past_turn : (total t p : ℕ) (s : DomainState) (vs : List Visit) (xs : List ReceiveMove) → SeeMovesAtMost total t (receives (turn_told p s vs) ++ xs) → PastVisits total t (visits_to p vs) xs
+past_turn total t p s [] xs h = let same : t ≡ t + 0 = omega arith in record { sees = tt; rest = subst (λ (k : ℕ). SeeMovesAtMost total k xs) same h }
+past_turn total t p s (v ∷ vs) xs h = go (v.peer == p) h (λ k later. past_turn total k p (after_visit s v) vs xs later)
+  where
+    go : (b : Bool) → SeeMovesAtMost total t (receives (cond b (visit_told s v) [] ++ turn_told p (after_visit s v) vs) ++ xs)
+        → ((k : ℕ) → SeeMovesAtMost total k (receives (turn_told p (after_visit s v) vs) ++ xs) → PastVisits total k (visits_to p vs) xs) → PastVisits total t (cond b (v ∷ visits_to p vs) (visits_to p vs)) xs
+    go true h rest =
+        let first = past_visit total t s v (turn_told p (after_visit s v) vs) xs h in
+        let more = rest (t + length v.takes) first.1 in
+        let takes_of = flat_map (λ (u : Visit). u.takes) (visits_to p vs) in
+        let same : (t + length v.takes) + length takes_of ≡ t + length (v.takes ++ takes_of) = omega (arith, length-append v.takes takes_of) in
+        record { sees = (first.0, more.sees); rest = subst (λ (k : ℕ). SeeMovesAtMost total k xs) same more.rest }
+    go false h rest = rest t h
 
 past_back : (total t : ℕ) (names : List ℕ) (xs : List ReceiveMove) → SeeMovesAtMost total t (receives (map goes_back names) ++ xs) → SeeMovesAtMost total t xs
 past_back total t [] xs h = h
@@ -75,7 +91,7 @@ sees_told : (total t : ℕ) (lines : List CallLine) (r : RunState) (p : ℕ) (es
 sees_told total t lines r p [] h = tt
 sees_told total t lines r p (turned vs ∷ es) h =
     let more = moves_told lines (after lines r (turned vs)) p es in
-    let past = past_visits total t (visits_to p vs) (receives more) (subst (SeeMovesAtMost total t) (receives-append (flat_map visit_told (visits_to p vs)) more) h) in
+    let past = past_turn total t p r.state vs (receives more) (subst (SeeMovesAtMost total t) (receives-append (turn_told p r.state vs) more) h) in
     (past.sees, sees_told total (t + length (takes_in p (turned vs))) lines (after lines r (turned vs)) p es past.rest)
 sees_told total t lines r p (put to frame ∷ es) h =
     sees_told total t lines (after lines r (put to frame)) p es (subst (SeeMovesAtMost total t) (receives_putting (puts_in p (put to frame)) (moves_told lines (after lines r (put to frame)) p es)) h)
@@ -94,13 +110,13 @@ pub record EntriesFit (lines : List CallLine) (r : RunState) (a b : ℕ) (sent g
   pub sees : SeesAtMost a (length (put_to b sent)) 0 got
   pub backs : sum (back_looks b sent) ≤ given lines r a got
 
-module _ (sender_lines receiver_lines : List CallLine) (sender_begun receiver_begun : RunState) (sender_closed : IsClosed sender_begun.state) (receiver_closed : IsClosed receiver_begun.state) (a b : ℕ) (sent got : List PlainEntry) (there back : List LaneMove)
+module _ (sender_lines receiver_lines : List CallLine) (sender_begun receiver_begun : RunState) (a b : ℕ) (sent got : List PlainEntry) (there back : List LaneMove)
     (sent_told : map unnumbered there ≡ moves_told sender_lines sender_begun b sent) (got_told : map unnumbered back ≡ moves_told receiver_lines receiver_begun a got) where
   out : HasTraffic sender_lines sender_begun b sent there
-  out = has_traffic sender_lines sender_begun b sent there sender_closed sent_told
+  out = has_traffic sender_lines sender_begun b sent there sent_told
 
   into : HasTraffic receiver_lines receiver_begun a got back
-  into = has_traffic receiver_lines receiver_begun a got back receiver_closed got_told
+  into = has_traffic receiver_lines receiver_begun a got back got_told
 
   fits_by : IsPrefix (contents (frames_taken (receives back))) (frames_sent (sends there)) → SeeMovesAtMost (length (frames_sent (sends there))) 0 (receives back) → sum (back_counts (sends there)) ≤ length (numbers_given (receives back)) → EntriesFit receiver_lines receiver_begun a b sent got
   fits_by first sees backs = record {
@@ -157,7 +173,7 @@ own_moved a b (receiver (Gave n) ∷ ms) moved =
     let rest = own_moved (loop_after a (receiver (Gave n))) b ms moved.1 in
     record { came = rest.came; gone = omega (arith, rest.gone, length-append a.back (n ∷ [])); shown = rest.shown }
 
-pub own_fits : (lines : List CallLine) (r : RunState) (d pool : ℕ) (es : List PlainEntry) (ms : List LaneMove) (l : Loop) → IsClosed r.state → map unnumbered ms ≡ moves_told lines r d es → LoopMoved (new_loop pool) ms l → EntriesFit lines r d d es es
-own_fits lines r d pool es ms l closed told moved =
+pub own_fits : (lines : List CallLine) (r : RunState) (d pool : ℕ) (es : List PlainEntry) (ms : List LaneMove) (l : Loop) → map unnumbered ms ≡ moves_told lines r d es → LoopMoved (new_loop pool) ms l → EntriesFit lines r d d es es
+own_fits lines r d pool es ms l told moved =
     let own = own_moved (new_loop pool) l ms moved in
-    fits_by lines lines r r closed closed d d es es ms ms told told (contents l.frames, own.came) (own.shown (length (frames_sent (sends ms))) 0 (omega arith)) (omega (arith, own.gone))
+    fits_by lines lines r r d d es es ms ms told told (contents l.frames, own.came) (own.shown (length (frames_sent (sends ms))) 0 (omega arith)) (omega (arith, own.gone))

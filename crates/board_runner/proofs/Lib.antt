@@ -13,6 +13,7 @@ pub mod NamedItems
 pub mod NearCalled
 pub mod NearCarried
 pub mod NearEnds
+pub mod Unnumbered
 pub mod OnceLemmas
 pub mod OthersLemmas
 pub mod PeersLanes
@@ -67,4 +68,5 @@ pub mod WaitRuns
 pub mod WaitTests
 pub mod WaitRounds
 pub mod OwnWaits
+pub mod AnswerLemmas
 pub mod PacedWaits

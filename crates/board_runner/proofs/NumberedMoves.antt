@@ -6,20 +6,17 @@ use Rattle.std.proofs.lemmas.List.{map-append}
 use Rattle.lane_end.specs.ReceiveMoves as receiving
 use Rattle.lane_end.specs.ReceiveMoves.{ReceiveMove, Took, Gave}
 use Rattle.board_model.specs.declared.scenario.CallLine.{CallLine}
-use Rattle.board_model.specs.ClosedStates.{IsClosed}
-use Rattle.board_model.specs.Dealing.{keeps_buffer}
 use Rattle.board_model.specs.Deeds.{Deed, looks_back, puts_owed, looks_ahead, takes, after_deed, after_deeds, along}
 use Rattle.board_model.specs.Journal.{PlainEntry, PlainAnswer, Visit, Taken}
 use Rattle.board_model.specs.JournalDeeds.{named_deeds, names_from, call_deeds}
-use Rattle.board_model.specs.Returns.{given_at_once, given_by_frame}
+use Rattle.board_model.specs.Returns.{given_by_frame}
 use Rattle.board_model.specs.Serial.{put_entry}
 use Rattle.board_model.specs.State.{DomainState, Item, frames_from}
 use Rattle.board_model.specs.Step.{RunState, next_line, after}
 use Rattle.board_model.specs.Traffic.{taken_from}
 use Rattle.board_model.specs.Turn.{takes_named, visit_deeds}
 use Rattle.board_model.specs.Unnamed.{unnamed, unnamed_end, unnamed_held, unnamed_packet, unnamed_request}
-use Rattle.board_model.proofs.ClosedStates.{closed-deed, closed-deeds, given-alone}
-use Rattle.board_model.proofs.DeedJoins.{along-join}
+use Rattle.board_model.proofs.DeedJoins.{after-join, along-join}
 use Rattle.board_model.proofs.MessageAlls.{all-append}
 use Rattle.board_model.proofs.WholeJournals.{call_entries}
 use Rattle.domain_core.specs.AllMoved as core
@@ -27,7 +24,7 @@ use Rattle.domain_core.specs.AllMoved.{frames_to, moves_at}
 use Rattle.domain_core.specs.LaneMoves.{LaneMove, sender, receiver, receives}
 use Rattle.domain_core.specs.NumberedDeeds.{number_in, numbered_deeds, turn_deeds}
 use Rattle.domain_core.specs.Turned.{HaveNumbers}
-use Rattle.domain_core.specs.VisitMoves.{putting, taking, visit_moves}
+use Rattle.domain_core.specs.VisitMoves.{before_takes, putting, taking, visit_moves}
 use Rattle.lane_images.specs.DeedMoves as deals
 use Rattle.lane_images.specs.DeedMoves.{deed_moves, unlooked, nameless_deed, IsNumbered}
 use Rattle.board_runner.specs.OwnRun.{deeds_told}
@@ -52,6 +49,10 @@ dealt-append xs ys = ap unlooked (receives-append xs ys) ∙ unlooked-append (re
 receives-putting : (fs : List (List ℕ)) (ms : List LaneMove) → receives (putting fs ++ ms) ≡ receives ms
 receives-putting [] ms = refl
 receives-putting (f ∷ fs) ms = receives-putting fs ms
+
+given-dealt : (ns : List ℕ) → unlooked (receives (core.giving ns)) ≡ deals.giving ns
+given-dealt [] = refl
+given-dealt (n ∷ ns) = ap (λ (ms : List ReceiveMove). Gave n ∷ ms) (given-dealt ns)
 
 -- ---- a visit
 
@@ -91,37 +92,38 @@ module _ (p : ℕ) where
   owed-dealt peer [] s = refl
   owed-dealt peer (f ∷ fs) s = owed-dealt peer fs (after_deed s (puts_owed peer f))
 
-  takes-dealt : (peer : ℕ) (ns : List ℕ) (ts : List Taken) (s : DomainState) → IsClosed s → length ns ≡ length ts → along (deed_moves p) s (takes_named (λ k. slice_get ns k) peer ts) ≡ cond (peer == p) (unlooked (receives (taking ns ts))) []
-  takes-dealt peer [] [] s closed e = nothing (peer == p)
+  takes-dealt : (peer : ℕ) (ns : List ℕ) (ts : List Taken) (s : DomainState) → length ns ≡ length ts → along (deed_moves p) s (takes_named (λ k. slice_get ns k) peer ts) ≡ cond (peer == p) (unlooked (receives (taking s peer ns ts))) []
+  takes-dealt peer [] [] s e = nothing (peer == p)
     where
       nothing : (b : Bool) → [] ≡ cond {A = List ReceiveMove} b [] []
       nothing true = refl
       nothing false = refl
-  takes-dealt peer [] (t ∷ ts) s closed e = absurd (omega (arith, e))
-  takes-dealt peer (n ∷ ns) [] s closed e = absurd (omega (arith, e))
-  takes-dealt peer (n ∷ ns) (t ∷ ts) s closed e =
-      let d : Deed = takes peer (Some n) t.frame t.fate in
-      ap (λ (f : ℕ → Option ℕ). cond (peer == p) (deals.taking (Some n) t.frame (given_by_frame s peer (Some n) t.frame t.fate)) [] ++ along (deed_moves p) (after_deed s d) (takes_named f peer ts)) (next-number n ns)
-      ∙ (ap (λ (gs : List ℕ). cond (peer == p) (deals.taking (Some n) t.frame gs) [] ++ along (deed_moves p) (after_deed s d) (takes_named (λ k. slice_get ns k) peer ts)) (given-alone s peer (Some n) t.frame t.fate closed)
-      ∙ (ap (λ (ms : List ReceiveMove). cond (peer == p) (deals.taking (Some n) t.frame (given_at_once t.fate (n ∷ []))) [] ++ ms) (takes-dealt peer ns ts (after_deed s d) (closed-deed s d closed) (omega (arith, e)))
-      ∙ go (peer == p)))
+  takes-dealt peer [] (t ∷ ts) s e = absurd (omega (arith, e))
+  takes-dealt peer (n ∷ ns) [] s e = absurd (omega (arith, e))
+  takes-dealt peer (n ∷ ns) (t ∷ ts) s e =
+      ap (λ (f : ℕ → Option ℕ). cond (peer == p) (deals.taking (Some n) t.frame given) [] ++ along (deed_moves p) now (takes_named f peer ts)) (next-number n ns)
+      ∙ (ap (λ (ms : List ReceiveMove). cond (peer == p) (deals.taking (Some n) t.frame given) [] ++ ms) (takes-dealt peer ns ts now (omega (arith, e)))
+      ∙ go (peer == p))
     where
-      back : (k : Bool) → (deals.giving (cond k [] (n ∷ [])) ++ unlooked (receives (taking ns ts))) ≡ unlooked (receives (cond k [] (receiver (Gave n) ∷ []) ++ taking ns ts))
-      back true = refl
-      back false = refl
+      given : List ℕ
+      given = given_by_frame s peer (Some n) t.frame t.fate
 
-      go : (b : Bool) → cond b (deals.taking (Some n) t.frame (given_at_once t.fate (n ∷ []))) [] ++ cond b (unlooked (receives (taking ns ts))) [] ≡ cond b (unlooked (receives (taking (n ∷ ns) (t ∷ ts)))) []
-      go true = ap (λ (ms : List ReceiveMove). Took n t.frame ∷ ms) (back (keeps_buffer t.fate))
+      now : DomainState
+      now = after_deed s (takes peer (Some n) t.frame t.fate)
+
+      go : (b : Bool) → cond b (deals.taking (Some n) t.frame given) [] ++ cond b (unlooked (receives (taking now peer ns ts))) [] ≡ cond b (unlooked (receives (taking s peer (n ∷ ns) (t ∷ ts)))) []
+      go true = ap (λ (ms : List ReceiveMove). Took n t.frame ∷ ms) (ap (λ (ms : List ReceiveMove). ms ++ unlooked (receives (taking now peer ns ts))) (sym (given-dealt given)) ∙ sym (dealt-append (core.giving given) (taking now peer ns ts)))
       go false = refl
 
-  visit-dealt : (v : Visit) (ns : List ℕ) (s : DomainState) → IsClosed s → length ns ≡ length v.takes → along (deed_moves p) s (numbered_deeds v ns) ≡ cond (v.peer == p) (unlooked (receives (visit_moves v ns))) []
-  visit-dealt v ns s closed e =
+  visit-dealt : (v : Visit) (ns : List ℕ) (s : DomainState) → length ns ≡ length v.takes → along (deed_moves p) s (numbered_deeds v ns) ≡ cond (v.peer == p) (unlooked (receives (visit_moves s v ns))) []
+  visit-dealt v ns s e =
       let t = after_deed s (looks_back v.peer v.back) in
-      let u = after_deeds t (map (puts_owed v.peer) v.owed) in
+      let u = after_deed (after_deeds t (map (puts_owed v.peer) v.owed)) (looks_ahead v.peer v.see) in
       along-join (deed_moves p) t (map (puts_owed v.peer) v.owed) (looks_ahead v.peer v.see ∷ takes_named (number_in ns) v.peer v.takes)
-      ∙ (ap (λ (ms : List ReceiveMove). ms ++ along (deed_moves p) (after_deeds t (map (puts_owed v.peer) v.owed)) (looks_ahead v.peer v.see ∷ takes_named (number_in ns) v.peer v.takes)) (owed-dealt v.peer v.owed t)
-      ∙ (takes-dealt v.peer ns v.takes (after_deed u (looks_ahead v.peer v.see)) (closed-deed u (looks_ahead v.peer v.see) (closed-deeds t (map (puts_owed v.peer) v.owed) (closed-deed s (looks_back v.peer v.back) closed))) e
-      ∙ ap (λ (ms : List ReceiveMove). cond (v.peer == p) (unlooked ms) []) (sym (receives-putting v.owed (receiver (receiving.Looked v.see) ∷ taking ns v.takes)))))
+      ∙ (ap (λ (ms : List ReceiveMove). ms ++ along (deed_moves p) u (takes_named (number_in ns) v.peer v.takes)) (owed-dealt v.peer v.owed t)
+      ∙ (takes-dealt v.peer ns v.takes u e
+      ∙ (ap (λ (x : DomainState). cond (v.peer == p) (unlooked (receives (taking x v.peer ns v.takes))) []) (sym (after-join t (map (puts_owed v.peer) v.owed) (looks_ahead v.peer v.see ∷ [])))
+      ∙ ap (λ (ms : List ReceiveMove). cond (v.peer == p) (unlooked ms) []) (sym (receives-putting v.owed (receiver (receiving.Looked v.see) ∷ taking (before_takes s v) v.peer ns v.takes))))))
 
 -- ---- a turn
 
@@ -141,29 +143,26 @@ turn-nameless before (v ∷ vs) (ns ∷ nss) have =
     ∙ sym (map-append nameless_deed (named_deeds before v) (flat_map (named_deeds before) vs))
 
 -- the moves of its visits to a peer
-abbrev pub turn_at : List Visit → List (List ℕ) → ℕ → List LaneMove
-turn_at [] nss p = []
-turn_at (v ∷ vs) [] p = []
-turn_at (v ∷ vs) (ns ∷ nss) p = cond (v.peer == p) (visit_moves v ns ++ turn_at vs nss p) (turn_at vs nss p)
+abbrev pub turn_at : DomainState → List Visit → List (List ℕ) → ℕ → List LaneMove
+turn_at s [] nss p = []
+turn_at s (v ∷ vs) [] p = []
+turn_at s (v ∷ vs) (ns ∷ nss) p = cond (v.peer == p) (visit_moves s v ns) [] ++ turn_at (after_deeds s (numbered_deeds v ns)) vs nss p
 
-pub turn-dealt : (p : ℕ) (vs : List Visit) (nss : List (List ℕ)) (s : DomainState) → IsClosed s → HaveNumbers vs nss → unlooked (receives (turn_at vs nss p)) ≡ along (deed_moves p) s (turn_deeds vs nss)
-turn-dealt p [] [] s closed have = refl
-turn-dealt p [] (ns ∷ nss) s closed have = absurd have
-turn-dealt p (v ∷ vs) [] s closed have = absurd have
-turn-dealt p (v ∷ vs) (ns ∷ nss) s closed have =
-    go (v.peer == p) (turn-dealt p vs nss (after_deeds s (numbered_deeds v ns)) (closed-deeds s (numbered_deeds v ns) closed) have.1)
-    ∙ sym (along-join (deed_moves p) s (numbered_deeds v ns) (turn_deeds vs nss) ∙ ap (λ (ms : List ReceiveMove). ms ++ along (deed_moves p) (after_deeds s (numbered_deeds v ns)) (turn_deeds vs nss)) (visit-dealt p v ns s closed have.0))
+pub turn-dealt : (p : ℕ) (vs : List Visit) (nss : List (List ℕ)) (s : DomainState) → HaveNumbers vs nss → unlooked (receives (turn_at s vs nss p)) ≡ along (deed_moves p) s (turn_deeds vs nss)
+turn-dealt p [] [] s have = refl
+turn-dealt p [] (ns ∷ nss) s have = absurd have
+turn-dealt p (v ∷ vs) [] s have = absurd have
+turn-dealt p (v ∷ vs) (ns ∷ nss) s have =
+    let now = after_deeds s (numbered_deeds v ns) in
+    dealt-append (cond (v.peer == p) (visit_moves s v ns) []) (turn_at now vs nss p)
+    ∙ ap₂ (λ (xs ys : List ReceiveMove). xs ++ ys) (go (v.peer == p) ∙ sym (visit-dealt p v ns s have.0)) (turn-dealt p vs nss now have.1)
+    ∙ sym (along-join (deed_moves p) s (numbered_deeds v ns) (turn_deeds vs nss))
   where
-    go : (b : Bool) → unlooked (receives (turn_at vs nss p)) ≡ along (deed_moves p) (after_deeds s (numbered_deeds v ns)) (turn_deeds vs nss)
-        → unlooked (receives (cond b (visit_moves v ns ++ turn_at vs nss p) (turn_at vs nss p))) ≡ cond b (unlooked (receives (visit_moves v ns))) [] ++ along (deed_moves p) (after_deeds s (numbered_deeds v ns)) (turn_deeds vs nss)
-    go true rest = dealt-append (visit_moves v ns) (turn_at vs nss p) ∙ ap (λ (ms : List ReceiveMove). unlooked (receives (visit_moves v ns)) ++ ms) rest
-    go false rest = rest
+    go : (b : Bool) → unlooked (receives (cond b (visit_moves s v ns) [])) ≡ cond b (unlooked (receives (visit_moves s v ns))) []
+    go true = refl
+    go false = refl
 
 -- ---- a call
-
-given-dealt : (ns : List ℕ) → unlooked (receives (core.giving ns)) ≡ deals.giving ns
-given-dealt [] = refl
-given-dealt (n ∷ ns) = ap (λ (ms : List ReceiveMove). Gave n ∷ ms) (given-dealt ns)
 
 pub call-dealt : (ps : List (ℕ × List ℕ)) (items : List Item) (p : ℕ) → unlooked (receives (moves_at ps items p)) ≡ deals.giving (frames_from p items)
 call-dealt ps items p = ap unlooked (receives-putting (frames_to p ps) (core.giving (frames_from p items))) ∙ given-dealt (frames_from p items)

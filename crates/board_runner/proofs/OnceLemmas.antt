@@ -131,7 +131,7 @@ module _ (line : CallLine) (may_try is_again is_still : Bool) (old : List Statio
       let matched = matched-here s board r old stands at st is in
       let turned_number : turned.state.number ≡ number_in st = ap (λ (x : DomainState). x.number) c.turns.state ∙ turn_number st.domain.state c.visits in
       let matched_turned : EndsMatch (number_in st) (peers_of turned) turned.ends
-      = subst (λ (ps : List ℕ). EndsMatch (number_in st) ps turned.ends) (sym peers_turned) (ends-match (number_in st) (peers_of st.domain) st.domain.ends (turn_moves c.visits c.numbers) turned.ends matched c.turns.moved) in
+      = subst (λ (ps : List ℕ). EndsMatch (number_in st) ps turned.ends) (sym peers_turned) (ends-match (number_in st) (peers_of st.domain) st.domain.ends (turn_moves st.domain.numbered c.visits c.numbers) turned.ends matched c.turns.moved) in
       let after = after-call (number_in st) (puts turned.state line.node (call_at_station line st)) (returned turned.numbered line.node (call_at_station line st)) (peers_of turned) turned.ends h.called_to.domain.ends matched_turned c.does.moved in
       exact-turn st.domain turned c.visits c.numbers c.turns matched (peers-differ s board r old stands at st is) (near (domains_in old)) (come-here s board r old stands at st is carried)
       (λ p other.

@@ -20,7 +20,6 @@ use Rattle.board_model.specs.Tallies.{deleted_in}
 use Rattle.board_model.specs.Loads.{Load, empty_load, is_between, frames_in, returned_in}
 use Rattle.board_model.specs.SerialRun as run
 use Rattle.board_model.specs.SerialRun.{opened_station, opened}
-use Rattle.board_model.proofs.ClosedStates.{opened-closed}
 use Rattle.board_model.proofs.MessageAlls.{all-found, all-weaken, found-passes}
 use Rattle.board_model.proofs.ListsApart.{all-map}
 use Rattle.board_model.proofs.BoardsRising.{rising-rises}
@@ -147,7 +146,6 @@ module _ (ws : List Wire) where
     };
     dropped = h.dropped ∙ sym (ap (λ (ls : List Line). sum_by (deleted_in (script s d.domain)) ls) h.told);
     own = refl;
-    closed = opened-closed d.domain d.nodes (neighbours s d);
     domain_number = h.domain_number;
     peers = opened_peers s d st h;
     matched = subst (λ (ps : List ℕ). EndsMatch d.domain ps st.domain.ends)

@@ -7,7 +7,6 @@ use Rattle.lane_end.specs.AnyReceiver.{AnyReceives}
 use Rattle.mc_base.specs.declared.refusal.Refusal.{Refusal}
 use Rattle.mc_base.specs.declared.request.PacketId.{PacketId}
 use Rattle.mc_base.specs.declared.request.RequestId.{RequestId}
-use Rattle.board_model.specs.ClosedStates.{IsClosed}
 use Rattle.board_model.specs.declared.scenario.CallLine.{CallLine}
 use Rattle.board_model.specs.declared.scenario.DomainLine.{DomainLine}
 use Rattle.board_model.specs.declared.scenario.Scenario.{Scenario}
@@ -116,7 +115,7 @@ module _ (s : Scenario) (board : IsLinkedBoard s) (d : DomainLine) (ends : List 
   turned_matched : EndsMatch d.domain (peers_of mid) mid.ends
   turned_matched =
       subst (λ (ps : List ℕ). EndsMatch d.domain ps mid.ends) (sym turned_peers)
-      (ends-match d.domain (peers_of old.domain) old.domain.ends (turn_moves calls.visits calls.numbers) mid.ends h.stands.matched calls.turns.moved)
+      (ends-match d.domain (peers_of old.domain) old.domain.ends (turn_moves old.domain.numbered calls.visits calls.numbers) mid.ends h.stands.matched calls.turns.moved)
 
   called_peers : peers_of called_to.domain ≡ peers_of mid
   called_peers = ap (λ (x : DomainState). map (λ p. p.number) x.peers) calls.does.state ∙ call_numbers mid.state line.node call
@@ -134,7 +133,7 @@ module _ (s : Scenario) (board : IsLinkedBoard s) (d : DomainLine) (ends : List 
   turned_moves : MovedAsTold lines begun (peers_of old.domain) t.entries ends mid.ends begun.state mid.numbered
   turned_moves =
       moved_then lines begun (peers_of old.domain) h.entries (turned calls.visits ∷ []) ends old.domain.ends mid.ends begun.state old.domain.numbered mid.numbered h.moves
-      (turn_moved lines (after_all lines begun h.entries) old.domain mid calls.visits calls.numbers calls.turns differ (subst IsClosed (sym h.stands.state) h.stands.closed))
+      (turn_moved lines (after_all lines begun h.entries) old.domain mid calls.visits calls.numbers calls.turns differ (h.stands.state ∙ ap (λ (x : RunState). x.state) (leads_to lines begun h.run h.entries h.leads)))
 
   -- the call
 

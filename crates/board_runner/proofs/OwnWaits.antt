@@ -2,7 +2,6 @@
 use Rattle.std.proofs.Common.{◌≡◌, ℕ, ◌+◌, ◌*◌, ◌≤◌, ◌<◌, ◌^◌, Bool, true, false, ◌&&◌, List, [], ◌∷◌, ◌++◌, length, map, Some, Option, refl, sym, ap, ap₂, ◌∙◌, subst, inl, inr, arith, true≢false}
 use Rattle.std.specs.Prelude.{IsSome, slice_get}
 use Rattle.mc_base.specs.declared.request.RequestId.{RequestId}
-use Rattle.board_model.specs.ClosedStates.{IsClosed}
 use Rattle.board_model.specs.declared.scenario.CallLine.{CallLine}
 use Rattle.board_model.specs.declared.scenario.DomainLine.{DomainLine}
 use Rattle.board_model.specs.declared.scenario.Scenario.{Scenario}
@@ -188,7 +187,7 @@ module _ (s : Scenario) (board : IsLinkedBoard s) (d : DomainLine) (ends : List 
       let pends = sym (waiting-is s t st at.stands line is_wait false) ∙ awaited in
       let peers : peers_of next ≡ peers_of st.domain = ap (λ (x : DomainState). map (λ p. p.number) x.peers) turn.state ∙ turn_numbers st.domain.state visits in
       let matched : EndsMatch d.domain (peers_of next) next.ends =
-      subst (λ (ps : List ℕ). EndsMatch d.domain ps next.ends) (sym peers) (ends-match d.domain (peers_of st.domain) st.domain.ends (turn_moves visits numbers) next.ends at.stands.matched turn.moved) in
+      subst (λ (ps : List ℕ). EndsMatch d.domain ps next.ends) (sym peers) (ends-match d.domain (peers_of st.domain) st.domain.ends (turn_moves st.domain.numbered visits numbers) next.ends at.stands.matched turn.moved) in
       let differ : Differ (peers_of st.domain) = subst Differ (sym at.stands.peers) (neighbours_differ s board d) in
       let same = same_call r.labels r.state visits line.call limit is in
       record {
@@ -204,7 +203,7 @@ module _ (s : Scenario) (board : IsLinkedBoard s) (d : DomainLine) (ends : List 
           moves =
               subst (λ (ps : List ℕ). MovedAsTold lines opened ps (h.entries ++ e ∷ []) ends next.ends opened.state next.numbered) (sym peers)
               (moved_then lines opened (peers_of st.domain) h.entries (e ∷ []) ends st.domain.ends next.ends opened.state st.domain.numbered next.numbered at.moves
-              (turn_moved lines (after_all lines opened h.entries) st.domain next visits numbers turn differ (subst IsClosed (sym at.stands.state) at.stands.closed)));
+              (turn_moved lines (after_all lines opened h.entries) st.domain next visits numbers turn differ (at.stands.state ∙ ap (λ (x : RunState). x.state) (leads_to lines opened r h.entries at.leads))));
           comes = at.comes;
         };
         waited = one_more_turn s line turns t visits at.comes (record { begun = h.waited; pends = pends });

@@ -25,6 +25,7 @@ use Rattle.board_model.specs.declared.scenario.CallLine.{CallLine}
 use Rattle.board_model.specs.Answer.{puts, refusal, unless_refused}
 use Rattle.board_model.specs.DomainCall.{turn_alone}
 use Rattle.board_model.specs.CallChanges.{returned}
+use Rattle.board_model.specs.Deeds.{after_deeds}
 use Rattle.board_model.specs.Journal.{Line, turn_line, back_line, put_line, see_line, looked, taken_line, visit_lines, Visit, Taken, is_idle, turned, noted, noted_idle, noted_all}
 use Rattle.board_model.specs.Serial.{put_entry}
 use Rattle.board_model.specs.State.{DomainState, Item}
@@ -32,7 +33,8 @@ use Rattle.board_model.specs.Step.{is_tried}
 use Rattle.domain_core.specs.declared.Ends.TheVariants.{Own, Linked}
 use Rattle.domain_core.specs.LoopMoved.{LoopMoved, loop_after}
 use Rattle.domain_core.specs.LaneMoves.{LaneMove, sender, receiver, sends, receives}
-use Rattle.domain_core.specs.VisitMoves.{putting, taking, visit_moves}
+use Rattle.domain_core.specs.NumberedDeeds.{numbered_deeds}
+use Rattle.domain_core.specs.VisitMoves.{before_takes, putting, taking, visit_moves}
 use Rattle.domain_core.specs.AllMoved.{AllMoved, turn_moves, call_moves}
 use Rattle.mc_journal.specs.Entry.{plain_answer}
 use Rattle.board_runner.specs.declared.station.Station.{Station}
@@ -171,26 +173,26 @@ both_true : (x y : Bool) → (x && y) ≡ true → (x ≡ true) × (y ≡ true)
 both_true true y e = (refl, e)
 both_true false y e = absurd cc
 
-looks_of : (see : ℕ) (owed : List (List ℕ)) (ns : List ℕ) (ts : List Taken) → length owed ≡ 0 → length ts ≡ 0 → OnlyLooks (putting owed ++ receiver (receiving.Looked see) ∷ taking ns ts)
-looks_of see [] [] [] none_owed none_taken = tt
-looks_of see [] (n ∷ ns) [] none_owed none_taken = tt
-looks_of see [] ns (t ∷ ts) none_owed none_taken = absurd (omega (arith, none_taken))
-looks_of see (f ∷ fs) ns ts none_owed none_taken = absurd (omega (arith, none_owed))
+looks_of : (s : DomainState) (peer see : ℕ) (owed : List (List ℕ)) (ns : List ℕ) (ts : List Taken) → length owed ≡ 0 → length ts ≡ 0 → OnlyLooks (putting owed ++ receiver (receiving.Looked see) ∷ taking s peer ns ts)
+looks_of s peer see [] [] [] none_owed none_taken = tt
+looks_of s peer see [] (n ∷ ns) [] none_owed none_taken = tt
+looks_of s peer see [] ns (t ∷ ts) none_owed none_taken = absurd (omega (arith, none_taken))
+looks_of s peer see (f ∷ fs) ns ts none_owed none_taken = absurd (omega (arith, none_owed))
 
-idle_looks : (v : Visit) (ns : List ℕ) → is_idle v ≡ true → OnlyLooks (visit_moves v ns)
-idle_looks v ns idle =
+idle_looks : (s : DomainState) (v : Visit) (ns : List ℕ) → is_idle v ≡ true → OnlyLooks (visit_moves s v ns)
+idle_looks s v ns idle =
     let back = both_true (v.back == 0) (length v.owed == 0 && (v.see == 0 && length v.takes == 0)) idle in
     let owed = both_true (length v.owed == 0) (v.see == 0 && length v.takes == 0) back.1 in
     let takes = (both_true (v.see == 0) (length v.takes == 0) owed.1).1 in
-    (eqb-true v.back 0 back.0, looks_of v.see v.owed ns v.takes (eqb-true (length v.owed) 0 owed.0) (eqb-true (length v.takes) 0 takes))
+    (eqb-true v.back 0 back.0, looks_of (before_takes s v) v.peer v.see v.owed ns v.takes (eqb-true (length v.owed) 0 owed.0) (eqb-true (length v.takes) 0 takes))
 
-turn_looks : (vs : List Visit) (numbers : List (List ℕ)) → list_all is_idle vs ≡ true → AllByRecursion OnlyLooks (turn_moves vs numbers)
-turn_looks [] numbers idle = tt
-turn_looks (v ∷ vs) [] idle = tt
-turn_looks (v ∷ vs) (ns ∷ numbers) idle = let both = both_true (is_idle v) (list_all is_idle vs) idle in (idle_looks v ns both.0, turn_looks vs numbers both.1)
+turn_looks : (s : DomainState) (vs : List Visit) (numbers : List (List ℕ)) → list_all is_idle vs ≡ true → AllByRecursion OnlyLooks (turn_moves s vs numbers)
+turn_looks s [] numbers idle = tt
+turn_looks s (v ∷ vs) [] idle = tt
+turn_looks s (v ∷ vs) (ns ∷ numbers) idle = let both = both_true (is_idle v) (list_all is_idle vs) idle in (idle_looks s v ns both.0, turn_looks (after_deeds s (numbered_deeds v ns)) vs numbers both.1)
 
-pub idle-stays : (es : List RunEnds) (vs : List Visit) (numbers : List (List ℕ)) (es' : List RunEnds) → list_all is_idle vs ≡ true → AllMoved Moved es (turn_moves vs numbers) es' → StayCarried es es'
-idle-stays es vs numbers es' idle moved = stay_carried es (turn_moves vs numbers) es' (turn_looks vs numbers idle) moved
+pub idle-stays : (s : DomainState) (es : List RunEnds) (vs : List Visit) (numbers : List (List ℕ)) (es' : List RunEnds) → list_all is_idle vs ≡ true → AllMoved Moved es (turn_moves s vs numbers) es' → StayCarried es es'
+idle-stays s es vs numbers es' idle moved = stay_carried es (turn_moves s vs numbers) es' (turn_looks s vs numbers idle) moved
 
 -- ---- calls that put nothing and give nothing back
 
@@ -325,7 +327,7 @@ quiet-call line old new m makes quiet ps p =
     let told = told_idle old.journal.lines c.visits frames (ap ends_idle (sym c.told) ∙ both.1) in
     let none : returned s line.node call ≡ [] =
     either (is_turn line.call) (is_tried (plain_answer m.answer)) both.0 (turn_returns line old s) (λ tried. (tried_nothing s line.node call (ap is_tried (sym c.does.answer) ∙ tried)).returns_none) in
-    did-nothing-both (near_among ps old.domain.ends p) (near_among ps c.turned_to.ends p) (near_among ps new.domain.ends p) (idle-stays old.domain.ends c.visits c.numbers c.turned_to.ends told.idle c.turns.moved ps p)
+    did-nothing-both (near_among ps old.domain.ends p) (near_among ps c.turned_to.ends p) (near_among ps new.domain.ends p) (idle-stays old.domain.numbered old.domain.ends c.visits c.numbers c.turned_to.ends told.idle c.turns.moved ps p)
     (call_stays c.turned_to.ends frames (returned c.turned_to.numbered line.node call) (map (λ q. q.number) s.peers) new.domain.ends told.no_puts (named-none c.turned_to line.node call none) c.does.moved ps p)
 
 pub quiet-where : (line : CallLine) (old new : Station) (m : Made) (b : Bool) → MakesCall line old new m → b ≡ is_quiet line.call (plain_answer m.answer) new.journal.lines → StayCarriedWhere b old.domain.ends new.domain.ends

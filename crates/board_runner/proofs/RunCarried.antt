@@ -113,7 +113,6 @@ station_carried s t st es matched h = record {
   };
   dropped = h.dropped;
   own = h.own;
-  closed = h.closed;
   domain_number = h.domain_number;
   peers = h.peers;
   matched = subst (λ (n : ℕ). EndsMatch n (peers_of st.domain) es) (station-number s t st h) matched;

@@ -2,7 +2,6 @@
 use Rattle.std.proofs.Common.{◌≡◌, ◌≢◌, ℕ, Bool, true, false, cond, List, map, Option, Some, slice_get, slice_set, refl, sym, ap, ◌∙◌, subst, eqb-true}
 use Rattle.std.specs.Prelude.{◌==◌}
 use Rattle.std.specs.List.{AllByRecursion}
-use Rattle.board_model.specs.ClosedStates.{IsClosed}
 use Rattle.board_model.specs.declared.scenario.DomainLine.{DomainLine}
 use Rattle.board_model.specs.declared.scenario.Scenario.{Scenario}
 use Rattle.board_model.specs.Scenario.{Lane, lanes, rising}
@@ -103,7 +102,7 @@ module _ (s : Scenario) (board : IsLinkedBoard s) (r : Running) (sts : List Stat
       turned-lanes st.domain d' visits numbers turns
       (subst (λ (n : ℕ). EndsMatch n (peers_of st.domain) st.domain.ends) (sym number-is) place.is.matched)
       (subst Differ (sym place.is.peers) (neighbours_differ s board place.station.line))
-      (near (domains_in sts)) (lanes s) r.loads (subst IsClosed (sym place.is.state) place.is.closed) exact
+      (near (domains_in sts)) (lanes s) r.loads exact
       (subst (λ (n : ℕ). AllByRecursion (HasBoth (lanes s) n) (peers_of st.domain)) (sym number-is) (subst (AllByRecursion (HasBoth (lanes s) place.station.line.domain)) (sym place.is.peers) (has-both s board place.station.line i line-at)))
       (all-weaken (LaneHolds (domains_in sts) r.loads) (Stands (number_in st) (near_of st.domain) (near (domains_in sts)) r.loads)
       (holds-stands (domains_in sts) (number_in st) (near_of st.domain) (near (domains_in sts)) r.loads (near-was sts i st (number_in st) (numbers-differ s board r sts h) at refl)) (lanes s) h.holds)
@@ -123,7 +122,7 @@ module _ (s : Scenario) (board : IsLinkedBoard s) (r : Running) (sts : List Stat
       (station-turned s t st visits numbers d' j place.is turns told turn.peers (subst (λ (n : ℕ). EndsMatch n (peers_of d') d'.ends) number-is turn.matched))
       (all-weaken (Stands (number_in st) (near_of d') (near (domains_in sts)) loads) (LaneHolds (domains_in (slice_set sts i st')) loads)
       (stands-holds (domains_in (slice_set sts i st')) (number_in st) (near_of d') (near (domains_in sts)) loads (near-replaced sts i st (number_in st) differ at refl st' number-stays)) (lanes s) stands)
-      (all-weaken (LaneJoins (domains_in sts)) (LaneJoins (domains_in (slice_set sts i st'))) (joins-replaced sts i st st' (turn_moves visits numbers) differ at number-stays turns.moved) (lanes s) h.joins))
+      (all-weaken (LaneJoins (domains_in sts)) (LaneJoins (domains_in (slice_set sts i st'))) (joins-replaced sts i st st' (turn_moves st.domain.numbered visits numbers) differ at number-stays turns.moved) (lanes s) h.joins))
 
   -- the station's number may be told apart
   pub run-turned : (n : ℕ) → number_in st ≡ n → IsRun s (turned_once s r n) (slice_set sts i (turned_station st d' j))

@@ -12,7 +12,6 @@ use Rattle.lane_end.specs.Halves.{HasSent, HasReceived}
 use Rattle.lane_end.specs.LaneRun.{IsLaneRun, in_ring, with_receiver}
 use Rattle.lane_end.specs.ReceiveParts.{frames_taken, see_counts}
 use Rattle.lane_end.specs.SendParts.{frames_sent, back_counts}
-use Rattle.board_model.specs.ClosedStates.{IsClosed}
 use Rattle.board_model.specs.declared.totals.LanePlaces.{LanePlaces}
 use Rattle.board_model.specs.declared.totals.Totals.{Totals}
 use Rattle.board_model.specs.declared.scenario.DomainLine.{DomainLine}
@@ -20,7 +19,7 @@ use Rattle.board_model.specs.declared.scenario.LinkLine.{LinkLine}
 use Rattle.board_model.specs.declared.scenario.Scenario.{Scenario}
 use Rattle.board_model.specs.Lists.{IsPrefix}
 use Rattle.board_model.specs.LinkedBoard.{IsSamePair, PairsDiffer, Joins, IsLinkedBoard}
-use Rattle.board_model.specs.Scenario.{Lane, lanes, neighbours, script, rising}
+use Rattle.board_model.specs.Scenario.{Lane, lanes, script, rising}
 use Rattle.board_model.specs.Traffic.{put_to, takes_from, taken_from, given, back_looks}
 use Rattle.board_model.specs.Run.{start, left_by, IsDomainRun}
 use Rattle.board_model.specs.State.{free_to, queued_from, lent_from}
@@ -28,7 +27,6 @@ use Rattle.board_model.specs.Board.{DomainJournal, journal_in, journal_of, given
 use Rattle.board_model.specs.Places.{in_last_state, places_of, EveryBuffer}
 use Rattle.board_model.specs.SerialRun as run
 use Rattle.board_model.specs.SerialRun.{is_station, journal_left, opened}
-use Rattle.board_model.proofs.ClosedStates.{opened-closed}
 use Rattle.board_model.proofs.LaneRuns.{sums_run}
 use Rattle.board_model.proofs.MessageAlls.{all-found, all-weaken}
 use Rattle.board_model.proofs.BoardsLanes.{lane-found}
@@ -234,9 +232,6 @@ module _ (s : Scenario) (board : IsLinkedBoard s) (rings : List LinkRings) (hs :
         was = subst (λ (x : ℕ). WasRun Device r.queue0 (sends (moves x b)) (receives (moves b x)) z) f (subst (λ (y : ℕ). WasRun Device r.queue0 (sends (moves l.device y)) (receives (moves y l.device)) z) e run.0.was0);
       }
 
-  begun-closed : (t : run.Station) → IsClosed (start s t.line).state
-  begun-closed t = opened-closed t.line.domain t.line.nodes (neighbours s t.line)
-
   -- by their journals the two ends of a lane fit
   lane-fits : (l : Lane) (t u : run.Station) → find (is_station l.sender) ts ≡ Some t → find (is_station l.receiver) ts ≡ Some u → EntriesFit (script s u.line.domain) (start s u.line) l.sender l.receiver t.entries u.entries → LaneFits s js l
   lane-fits l t u at_t at_u fits =
@@ -252,7 +247,7 @@ module _ (s : Scenario) (board : IsLinkedBoard s) (rings : List LinkRings) (hs :
   own-lane : (a : ℕ) (t : run.Station) → find (is_station a) ts ≡ Some t → EntriesFit (script s t.line.domain) (start s t.line) a a t.entries t.entries
   own-lane a t at =
       let own = owns-after s ws (rising s) ts h.olds h.news h.alone.lines h.opens h.begun h.alone.ran a t at in
-      own_fits (script s t.line.domain) (start s t.line) a t.line.pool t.entries (moves a a) own.loop (begun-closed t) (told a t at a) own.moved
+      own_fits (script s t.line.domain) (start s t.line) a t.line.pool t.entries (moves a a) own.loop (told a t at a) own.moved
 
   module _ (closed : List FinishedRing) (finished : LinksAreRun moves s.links rings closed) where
     same-station : {x y : run.Station} → Some x ≡ Some y → x ≡ y
@@ -267,7 +262,7 @@ module _ (s : Scenario) (board : IsLinkedBoard s) (rings : List LinkRings) (hs :
     link-fits : (a b size : ℕ) (t u : run.Station) → find (is_station a) ts ≡ Some t → find (is_station b) ts ≡ Some u → Has (IsLink a b size) s.links → EntriesFit (script s u.line.domain) (start s u.line) a b t.entries u.entries
     link-fits a b size t u at_t at_u link =
         let ran = lane-ran s.links rings closed finished a b size link in
-        ring_fits (script s t.line.domain) (script s u.line.domain) (start s t.line) (start s u.line) (begun-closed t) (begun-closed u) a b t.entries u.entries (moves a b) (moves b a) (told a t at_t b) (told b u at_u a) ran.role ran.size ran.closed ran.ran
+        ring_fits (script s t.line.domain) (script s u.line.domain) (start s t.line) (start s u.line) a b t.entries u.entries (moves a b) (moves b a) (told a t at_t b) (told b u at_u a) ran.role ran.size ran.closed ran.ran
 
     each-fits : (l : Lane) → Joined s l.sender l.receiver l.size → LaneFits s js l
     each-fits l joined =
@@ -332,8 +327,8 @@ module _ (s : Scenario) (board : IsLinkedBoard s) (rings : List LinkRings) (hs :
         let l : Lane = record { sender = a; receiver = b; size = size } in
         let t = station-found a b size joined in
         let u = station-found b a size (joined_back s a b size joined) in
-        let out = has_traffic (script s t.0.line.domain) (start s t.0.line) b t.0.entries (moves a b) (begun-closed t.0) (told a t.0 t.1 b) in
-        let into = has_traffic (script s u.0.line.domain) (start s u.0.line) a u.0.entries (moves b a) (begun-closed u.0) (told b u.0 u.1 a) in
+        let out = has_traffic (script s t.0.line.domain) (start s t.0.line) b t.0.entries (moves a b) (told a t.0 t.1 b) in
+        let into = has_traffic (script s u.0.line.domain) (start s u.0.line) a u.0.entries (moves b a) (told b u.0 u.1 a) in
         let j = journal_found ts a t.0 t.1 in
         let k = journal_found ts b u.0 u.1 in
         let every = all-found (EveryBuffer s js) (λ m. (m.sender == a) && (m.receiver == b)) (lanes s) l (every_lane s js board ran-board.run) (lane-found s board a b size joined) in

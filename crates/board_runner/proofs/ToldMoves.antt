@@ -6,26 +6,22 @@ use Rattle.std.proofs.lemmas.List.{map-append}
 use Rattle.mc_base.specs.declared.request.RequestId.{RequestId}
 use Rattle.lane_end.specs.AnySender.{AnySends, AnySends-none, AnySends-both}
 use Rattle.lane_end.specs.AnyReceiver.{AnyReceives, AnyReceives-none, AnyReceives-both}
-use Rattle.lane_end.specs.SendMoves.{Looked, Sent}
-use Rattle.lane_end.specs.ReceiveMoves as receiving
-use Rattle.lane_end.specs.ReceiveMoves.{ReceiveMove, Took, Gave}
+use Rattle.lane_end.specs.SendMoves.{Sent}
+use Rattle.lane_end.specs.ReceiveMoves.{ReceiveMove, Gave}
 use Rattle.board_model.specs.declared.scenario.CallLine.{CallLine}
 use Rattle.board_model.specs.Answer.{puts}
 use Rattle.board_model.specs.CallChanges.{returned}
-use Rattle.board_model.specs.Dealing.{keeps_buffer}
-use Rattle.board_model.specs.ClosedStates.{IsClosed}
 use Rattle.board_model.specs.Deeds.{Deed, calls, after_deeds, along}
 use Rattle.board_model.specs.JournalDeeds.{named_deeds, call_deeds, entry_deeds}
 use Rattle.board_model.specs.DomainCall.{DomainCall}
-use Rattle.board_model.specs.Journal.{PlainEntry, turned, PlainAnswer, Visit, Taken}
+use Rattle.board_model.specs.Journal.{PlainEntry, turned, PlainAnswer, Visit}
 use Rattle.board_model.specs.LinkedBoard.{Differ}
 use Rattle.board_model.specs.Serial.{put_entry}
 use Rattle.board_model.specs.State.{DomainState, Item, frames_from}
 use Rattle.board_model.specs.Step.{RunState, next_line, after}
 use Rattle.board_model.specs.Run.{after_all}
-use Rattle.board_model.specs.Traffic.{visits_to, returned_by}
-use Rattle.board_model.specs.Unnamed.{no_names}
-use Rattle.board_model.proofs.ClosedStates.{renamed-closed}
+use Rattle.board_model.specs.Traffic.{returned_by}
+use Rattle.board_model.specs.Unnamed.{unnamed}
 use Rattle.board_model.proofs.DeedJoins.{after-join, along-join}
 use Rattle.board_model.proofs.MessageAlls.{all-append}
 use Rattle.board_model.proofs.WholeJournals.{call_entries}
@@ -34,94 +30,77 @@ use Rattle.domain_core.specs.AllMoved.{AllMoved, turn_moves, giving, frames_to, 
 use Rattle.domain_core.specs.Calls.{Does}
 use Rattle.domain_core.specs.Ends.{EndsMoved-both}
 use Rattle.domain_core.specs.LaneMoves.{LaneMove, sender, receiver, receives}
-use Rattle.domain_core.specs.NumberedDeeds.{turn_deeds}
+use Rattle.domain_core.specs.NumberedDeeds.{numbered_deeds, turn_deeds}
 use Rattle.domain_core.specs.LinkMoved.{link-none}
 use Rattle.domain_core.specs.Turned.{HaveNumbers, Turns}
-use Rattle.domain_core.specs.VisitMoves.{putting, taking, visit_moves}
+use Rattle.domain_core.specs.VisitMoves.{putting, visit_moves}
 use Rattle.board_runner.specs.Near.{RunEnds, RunDomain, peers_of, EndsMatch}
 use Rattle.lane_images.specs.DeedMoves as deals
 use Rattle.lane_images.specs.DeedMoves.{deed_moves, unlooked, nameless_deed, IsNumbered}
-use Rattle.board_runner.specs.OwnRun.{unnumbered, visit_told, entry_told, moves_told, deeds_told, MovedAsTold}
+use Rattle.board_runner.specs.OwnRun.{unnumbered, visit_told, turn_told, entry_told, moves_told, deeds_told, MovedAsTold}
 use Rattle.board_runner.proofs.NamedItems.{named-many}
 use Rattle.board_runner.proofs.NumberedMoves.{dealt-append, turn_at, turn-numbered, turn-nameless, turn-dealt, call-dealt, call-noted}
-use Rattle.board_runner.proofs.TurnEnds.{Moved}
-
--- ---- without the numbers of buffers
-
-unnumbered_taking : (ns : List ℕ) (ts : List Taken) → length ns ≡ length ts → map unnumbered (taking ns ts) ≡ taking (map (λ t. 0) ts) ts
-unnumbered_taking [] [] e = refl
-unnumbered_taking [] (t ∷ ts) e = absurd cc
-unnumbered_taking (n ∷ ns) [] e = absurd cc
-unnumbered_taking (n ∷ ns) (t ∷ ts) e = go (keeps_buffer t.fate) (unnumbered_taking ns ts (omega (arith, e)))
-  where
-    go : (b : Bool) → map unnumbered (taking ns ts) ≡ taking (map (λ x. 0) ts) ts
-        → map unnumbered (receiver (Took n t.frame) ∷ (cond b [] (receiver (Gave n) ∷ []) ++ taking ns ts)) ≡ receiver (Took 0 t.frame) ∷ (cond b [] (receiver (Gave 0) ∷ []) ++ taking (map (λ x. 0) ts) ts)
-    go true rest = ap (λ (ms : List LaneMove). receiver (Took 0 t.frame) ∷ ms) rest
-    go false rest = ap (λ (ms : List LaneMove). receiver (Took 0 t.frame) ∷ (receiver (Gave 0) ∷ ms)) rest
-
-unnumbered_putting : (fs : List (List ℕ)) (ms : List LaneMove) → map unnumbered (putting fs ++ ms) ≡ putting fs ++ map unnumbered ms
-unnumbered_putting [] ms = refl
-unnumbered_putting (f ∷ fs) ms = ap (λ (xs : List LaneMove). sender (Sent f) ∷ xs) (unnumbered_putting fs ms)
-
-unnumbered_visit : (v : Visit) (ns : List ℕ) → length ns ≡ length v.takes → map unnumbered (visit_moves v ns) ≡ visit_told v
-unnumbered_visit v ns e =
-    ap (λ (xs : List LaneMove). sender (Looked v.back) ∷ xs)
-    (unnumbered_putting v.owed (receiver (receiving.Looked v.see) ∷ taking ns v.takes)
-    ∙ ap (λ (xs : List LaneMove). putting v.owed ++ receiver (receiving.Looked v.see) ∷ xs) (unnumbered_taking ns v.takes e))
+use Rattle.board_runner.proofs.TurnEnds.{Moved, visit-after}
+use Rattle.board_runner.proofs.Unnumbered.{unnumbered_putting, unnumbered_visit}
 
 -- ---- a turn
 
-unnumbered_turn : (vs : List Visit) (nss : List (List ℕ)) → HaveNumbers vs nss → (p : ℕ) → map unnumbered (turn_at vs nss p) ≡ flat_map visit_told (visits_to p vs)
-unnumbered_turn [] [] have p = refl
-unnumbered_turn [] (ns ∷ nss) have p = absurd have
-unnumbered_turn (v ∷ vs) [] have p = absurd have
-unnumbered_turn (v ∷ vs) (ns ∷ nss) have p = go (v.peer == p) (unnumbered_turn vs nss have.1 p)
+unnumbered_turn : (s : DomainState) (vs : List Visit) (nss : List (List ℕ)) → HaveNumbers vs nss → (p : ℕ) → map unnumbered (turn_at s vs nss p) ≡ turn_told p (unnamed s) vs
+unnumbered_turn s [] [] have p = refl
+unnumbered_turn s [] (ns ∷ nss) have p = absurd have
+unnumbered_turn s (v ∷ vs) [] have p = absurd have
+unnumbered_turn s (v ∷ vs) (ns ∷ nss) have p =
+    let now = after_deeds s (numbered_deeds v ns) in
+    map-append unnumbered (cond (v.peer == p) (visit_moves s v ns) []) (turn_at now vs nss p)
+    ∙ ap₂ (λ (xs ys : List LaneMove). xs ++ ys) (go (v.peer == p)) (unnumbered_turn now vs nss have.1 p ∙ ap (λ (t : DomainState). turn_told p t vs) (visit-after s v ns))
   where
-    go : (b : Bool) → map unnumbered (turn_at vs nss p) ≡ flat_map visit_told (visits_to p vs)
-        → map unnumbered (cond b (visit_moves v ns ++ turn_at vs nss p) (turn_at vs nss p)) ≡ flat_map visit_told (cond b (v ∷ visits_to p vs) (visits_to p vs))
-    go true later = map-append unnumbered (visit_moves v ns) (turn_at vs nss p) ∙ ap₂ (λ (xs ys : List LaneMove). xs ++ ys) (unnumbered_visit v ns have.0) later
-    go false later = later
+    go : (b : Bool) → map unnumbered (cond b (visit_moves s v ns) []) ≡ cond b (visit_told (unnamed s) v) []
+    go true = unnumbered_visit s v ns have.0
+    go false = refl
 
 abbrev Others : ℕ → List ℕ → Type 0
 Others p ps = AllByRecursion (λ m. m ≡ p → ⊥) ps
 
-none_at : (vs : List Visit) (nss : List (List ℕ)) (p : ℕ) → Others p (map (λ v. v.peer) vs) → turn_at vs nss p ≡ []
-none_at [] nss p others = refl
-none_at (v ∷ vs) [] p others = refl
-none_at (v ∷ vs) (ns ∷ nss) p others = ap (λ (b : Bool). cond b (visit_moves v ns ++ turn_at vs nss p) (turn_at vs nss p)) (ne_eqb v.peer p others.0) ∙ none_at vs nss p others.1
+none_at : (s : DomainState) (vs : List Visit) (nss : List (List ℕ)) (p : ℕ) → Others p (map (λ v. v.peer) vs) → turn_at s vs nss p ≡ []
+none_at s [] nss p others = refl
+none_at s (v ∷ vs) [] p others = refl
+none_at s (v ∷ vs) (ns ∷ nss) p others =
+    let now = after_deeds s (numbered_deeds v ns) in
+    ap (λ (b : Bool). cond b (visit_moves s v ns) [] ++ turn_at now vs nss p) (ne_eqb v.peer p others.0) ∙ none_at now vs nss p others.1
 
-past_one : (v : Visit) (ns : List ℕ) (vs : List Visit) (nss : List (List ℕ)) (ps : List ℕ) → Others v.peer ps → map (turn_at (v ∷ vs) (ns ∷ nss)) ps ≡ map (turn_at vs nss) ps
-past_one v ns vs nss [] others = refl
-past_one v ns vs nss (p ∷ ps) others =
-    ap₂ (λ (x : List LaneMove) (xs : List (List LaneMove)). x ∷ xs)
-    (ap (λ (b : Bool). cond b (visit_moves v ns ++ turn_at vs nss p) (turn_at vs nss p)) (ne_eqb v.peer p (λ e. others.0 (sym e)))) (past_one v ns vs nss ps others.1)
+past_one : (moves : List LaneMove) (peer : ℕ) (f : ℕ → List LaneMove) (ps : List ℕ) → Others peer ps → map (λ p. cond (peer == p) moves [] ++ f p) ps ≡ map f ps
+past_one moves peer f [] others = refl
+past_one moves peer f (p ∷ ps) others =
+    ap₂ (λ (x : List LaneMove) (xs : List (List LaneMove)). x ∷ xs) (ap (λ (b : Bool). cond b moves [] ++ f p) (ne_eqb peer p (λ e. others.0 (sym e)))) (past_one moves peer f ps others.1)
 
 -- each peer is visited once
-each_once : (vs : List Visit) (nss : List (List ℕ)) → HaveNumbers vs nss → Differ (map (λ v. v.peer) vs) → map (turn_at vs nss) (map (λ v. v.peer) vs) ≡ turn_moves vs nss
-each_once [] [] have differ = refl
-each_once [] (ns ∷ nss) have differ = absurd have
-each_once (v ∷ vs) [] have differ = absurd have
-each_once (v ∷ vs) (ns ∷ nss) have differ =
-    let here : turn_at (v ∷ vs) (ns ∷ nss) v.peer ≡ visit_moves v ns =
-    ap (λ (b : Bool). cond b (visit_moves v ns ++ turn_at vs nss v.peer) (turn_at vs nss v.peer)) (eq-eqb v.peer v.peer refl)
-    ∙ ap (λ (ms : List LaneMove). visit_moves v ns ++ ms) (none_at vs nss v.peer differ.0) ∙ append-nil (visit_moves v ns) in
-    ap₂ (λ (x : List LaneMove) (xs : List (List LaneMove)). x ∷ xs) here
-    (past_one v ns vs nss (map (λ (u : Visit). u.peer) vs) differ.0 ∙ each_once vs nss have.1 differ.1)
+each_once : (s : DomainState) (vs : List Visit) (nss : List (List ℕ)) → HaveNumbers vs nss → Differ (map (λ v. v.peer) vs) → map (turn_at s vs nss) (map (λ v. v.peer) vs) ≡ turn_moves s vs nss
+each_once s [] [] have differ = refl
+each_once s [] (ns ∷ nss) have differ = absurd have
+each_once s (v ∷ vs) [] have differ = absurd have
+each_once s (v ∷ vs) (ns ∷ nss) have differ =
+    let now = after_deeds s (numbered_deeds v ns) in
+    let moves = visit_moves s v ns in
+    let here : turn_at s (v ∷ vs) (ns ∷ nss) v.peer ≡ moves =
+    ap (λ (b : Bool). cond b moves [] ++ turn_at now vs nss v.peer) (eq-eqb v.peer v.peer refl)
+    ∙ ap (λ (ms : List LaneMove). moves ++ ms) (none_at now vs nss v.peer differ.0) ∙ append-nil moves in
+    ap₂ (λ (x : List LaneMove) (xs : List (List LaneMove)). x ∷ xs) here (past_one moves v.peer (turn_at now vs nss) (map (λ (u : Visit). u.peer) vs) differ.0 ∙ each_once now vs nss have.1 differ.1)
 
-pub turn_moved : (lines : List CallLine) (r : RunState) (d d' : RunDomain) (visits : List Visit) (numbers : List (List ℕ)) → Turns Moved visits numbers d d' → Differ (peers_of d) → IsClosed d.state → MovedAsTold lines r (peers_of d) (turned visits ∷ []) d.ends d'.ends d.numbered d'.numbered
-turn_moved lines r d d' visits numbers turns differ closed =
+pub turn_moved : (lines : List CallLine) (r : RunState) (d d' : RunDomain) (visits : List Visit) (numbers : List (List ℕ)) → Turns Moved visits numbers d d' → Differ (peers_of d) → d.state ≡ r.state → MovedAsTold lines r (peers_of d) (turned visits ∷ []) d.ends d'.ends d.numbered d'.numbered
+turn_moved lines r d d' visits numbers turns differ same =
+    let s = d.numbered in
     let peers = turns.allowed.each_peer in
     record {
-      moves = turn_at visits numbers;
-      told = λ p. unnumbered_turn visits numbers turns.each p ∙ sym (append-nil (flat_map visit_told (visits_to p visits)));
+      moves = turn_at s visits numbers;
+      told = λ p. unnumbered_turn s visits numbers turns.each p ∙ ap (λ (t : DomainState). turn_told p t visits) (sym d.nameless ∙ same) ∙ sym (append-nil (turn_told p r.state visits));
       moved =
           subst (λ (ms : List (List LaneMove)). AllMoved Moved d.ends ms d'.ends)
-          (sym (each_once visits numbers turns.each (subst Differ (sym peers) differ)) ∙ ap (map (turn_at visits numbers)) peers) turns.moved;
+          (sym (each_once s visits numbers turns.each (subst Differ (sym peers) differ)) ∙ ap (map (turn_at s visits numbers)) peers) turns.moved;
       deeds = turn_deeds visits numbers;
       numbered = turn-numbered visits numbers turns.each;
       noted = turn-nameless [] visits numbers turns.each ∙ sym (append-nil (map nameless_deed (flat_map (named_deeds []) visits)));
       led = turns.numbered;
-      dealt = λ p. turn-dealt p visits numbers d.numbered (renamed-closed no_names d.numbered (subst IsClosed d.nameless closed)) turns.each;
+      dealt = λ p. turn-dealt p visits numbers s turns.each;
     }
 
 -- ---- a call

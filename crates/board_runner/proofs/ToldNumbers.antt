@@ -20,9 +20,9 @@ use Rattle.board_model.specs.Run.{start, IsDomainRun}
 use Rattle.board_model.specs.Scenario.{script}
 use Rattle.board_model.specs.SerialRun as run
 use Rattle.board_model.specs.SerialRun.{journal_left}
-use Rattle.board_model.specs.State.{frames_from}
+use Rattle.board_model.specs.State.{DomainState, frames_from}
 use Rattle.board_model.specs.Step.{RunState, next_line, after}
-use Rattle.board_model.specs.Traffic.{visits_to, returned_by, taken_from}
+use Rattle.board_model.specs.Traffic.{returned_by, taken_from}
 use Rattle.board_model.proofs.MessageAlls.{all-append, all-weaken}
 use Rattle.domain_core.specs.LaneMoves.{LaneMove, sender, receiver, sends, receives}
 use Rattle.domain_core.specs.LoopMoved.{LoopMoved, loop_after}
@@ -38,7 +38,8 @@ use Rattle.board_runner.specs.OwnRun.{unnumbered, visit_told, entry_told, moves_
 use Rattle.board_runner.proofs.MovedLemmas.{DoneAt}
 use Rattle.board_runner.proofs.NearEnds.{first-came, sends_visit}
 use Rattle.board_runner.proofs.NumberedMoves.{visit-nameless}
-use Rattle.board_runner.proofs.ToldTraffic.{zeros, goes_back}
+use Rattle.board_runner.proofs.ToldTraffic.{goes_back, of_run, of_turn}
+use Rattle.board_runner.proofs.Unnumbered.{zeros}
 
 -- ---- puts, and buffers that come back
 
@@ -65,19 +66,15 @@ putting-puts : (fs : List (List ℕ)) → dealings (putting fs) ≡ map put_of f
 putting-puts [] = refl
 putting-puts (f ∷ fs) = ap (λ (es : List Sending). put_of f ∷ es) (putting-puts fs)
 
-visit-dealings : (v : Visit) → dealings (visit_told v) ≡ sent_at v
-visit-dealings v = ap sendings (sends_visit v (zeros v.takes)) ∙ ap (λ (es : List Sending). comes_back v.back ∷ es) (sent-puts v.owed)
-
-visits-dealings : (vs : List Visit) → dealings (flat_map visit_told vs) ≡ flat_map sent_at vs
-visits-dealings [] = refl
-visits-dealings (v ∷ vs) = dealings-append (visit_told v) (flat_map visit_told vs) ∙ ap₂ (λ (xs ys : List Sending). xs ++ ys) (visit-dealings v) (visits-dealings vs)
+visit-dealings : (s : DomainState) (v : Visit) → dealings (visit_told s v) ≡ sent_at v
+visit-dealings s v = ap sendings (sends_visit s v (zeros v.takes)) ∙ ap (λ (es : List Sending). comes_back v.back ∷ es) (sent-puts v.owed)
 
 back-dealings : (names : List ℕ) → dealings (map goes_back names) ≡ []
 back-dealings [] = refl
 back-dealings (n ∷ names) = back-dealings names
 
 entry-dealings : (lines : List CallLine) (r : RunState) (p : ℕ) (e : PlainEntry) → dealings (entry_told lines r p e) ≡ sent_by p e
-entry-dealings lines r p (turned vs) = visits-dealings (visits_to p vs)
+entry-dealings lines r p (turned vs) = of_turn dealings refl dealings-append p sent_at visit-dealings r.state vs
 entry-dealings lines r p (put to frame) = go (to == p)
   where
     go : (b : Bool) → dealings (putting (cond b (frame ∷ []) [])) ≡ cond b (put_of frame ∷ []) []
@@ -87,14 +84,8 @@ entry-dealings lines r p (again word) = refl
 entry-dealings lines r p (waits k) = refl
 entry-dealings lines r p (called k a) = back-dealings (frames_from p (returned_by (next_line lines r) r))
 
-run-dealings : (lines : List CallLine) (r : RunState) (p : ℕ) (es : List PlainEntry) → dealings (moves_told lines r p es) ≡ sent_to p es
-run-dealings lines r p [] = refl
-run-dealings lines r p (e ∷ es) =
-    dealings-append (entry_told lines r p e) (moves_told lines (after lines r e) p es)
-    ∙ ap₂ (λ (xs ys : List Sending). xs ++ ys) (entry-dealings lines r p e) (run-dealings lines (after lines r e) p es)
-
 pub told-sendings : (lines : List CallLine) (r : RunState) (p : ℕ) (es : List PlainEntry) (ms : List LaneMove) → map unnumbered ms ≡ moves_told lines r p es → sendings (sends ms) ≡ sent_to p es
-told-sendings lines r p es ms told = unnumbered-dealings ms ∙ ap dealings told ∙ run-dealings lines r p es
+told-sendings lines r p es ms told = unnumbered-dealings ms ∙ ap dealings told ∙ of_run dealings refl dealings-append lines p (sent_by p) (λ r e. entry-dealings lines r p e) r es
 
 -- ---- buffers that are given back
 

@@ -5,15 +5,18 @@ use Rattle.std.specs.List.{AllByRecursion}
 use Rattle.lane_end.specs.Halves.{RingSend-stays, RingRecv-stays}
 use Rattle.lane_end.specs.AnySender.{AnySends}
 use Rattle.lane_end.specs.AnyReceiver.{AnyReceives}
-use Rattle.board_model.specs.ClosedStates.{IsClosed}
 use Rattle.board_model.specs.Scenario.{Lane}
 use Rattle.board_model.specs.Journal.{Visit}
 use Rattle.board_model.specs.State.{DomainState}
-use Rattle.board_model.specs.Turn.{AreVisits}
+use Rattle.board_model.specs.Deeds.{after_deeds}
+use Rattle.board_model.specs.Serial.{returned_at_once}
+use Rattle.board_model.specs.Turn.{AreVisits, after_visit}
+use Rattle.board_model.specs.Unnamed.{unnamed}
 use Rattle.board_model.specs.LinkedBoard.{Differ}
 use Rattle.board_model.specs.Loads.{Load, turn_of, loads_turned, visits_to_all, loads_after}
 use Rattle.board_model.proofs.ListsApart.{all-map, all-unmap}
 use Rattle.board_model.proofs.MessageAlls.{all-weaken, all-with}
+use Rattle.board_model.proofs.UnnamedDeeds.{deeds-unnamed, visit-unnamed}
 use Rattle.board_model.proofs.WholeTurns.{turn_numbers}
 use Rattle.domain_core.specs.declared.Ends.TheVariants.{Own, Linked}
 use Rattle.domain_core.specs.LaneMoves.{LaneMove, sends, receives}
@@ -21,11 +24,13 @@ use Rattle.domain_core.specs.LinkMoved.{LinkMoved}
 use Rattle.domain_core.specs.Carrying.{AnyLink}
 use Rattle.domain_core.specs.Ends.{EndsMoved}
 use Rattle.domain_core.specs.AllMoved.{AllMoved, turn_moves}
+use Rattle.domain_core.specs.NumberedDeeds.{number_in, numbered_deeds}
 use Rattle.domain_core.specs.Turned.{HaveNumbers, Turns}
 use Rattle.board_runner.specs.Near.{Near, IsLinkTo, RunEnds, RunDomain, near_to, near_among, near_of, peers_of, EndsMatch}
-use Rattle.board_runner.proofs.NearEnds.{NearVisited, LinkVisited, link-visited, own-visited}
+use Rattle.board_runner.proofs.NearEnds.{NearVisited, LinkVisited, gives, visit_taking, link-visited, own-visited}
+use Rattle.board_runner.proofs.Unnumbered.{visit-returns}
 use Rattle.board_runner.proofs.LanesNear.{LaneStands, Exact, near_now, with_near}
-use Rattle.board_runner.proofs.TurnLanes.{Stands, HasBoth, PeerTurn, peer_in, visits_in, peers_in, IsPeerTurn, IsExactTurn, near_after, turn-stands}
+use Rattle.board_runner.proofs.TurnLanes.{Stands, HasBoth, PeerTurn, peer_in, visits_in, peers_in, IsPeerTurn, GiveBack, IsExactTurn, near_after, turn-stands}
 
 -- the moves of the ends
 abbrev pub Moved : RunEnds → List LaneMove → RunEnds → Type 0
@@ -49,44 +54,50 @@ ends-match n (p ∷ ps) (e ∷ es) (ms ∷ moves) [] matched moved = absurd move
 ends-match n (p ∷ ps) (Own a ∷ es) (ms ∷ moves) (Linked b ∷ es') matched moved = absurd moved.0
 ends-match n (p ∷ ps) (Linked a ∷ es) (ms ∷ moves) (Own b ∷ es') matched moved = absurd moved.0
 
--- ---- visits with the ends that they are made at
+-- ---- visits from a state, with the ends that they are made at
 
-record Zipped (n : ℕ) (es : List RunEnds) (vs : List Visit) (es' : List RunEnds) : Type 0 where
+record Zipped (n : ℕ) (s : DomainState) (es : List RunEnds) (vs : List Visit) (es' : List RunEnds) : Type 0 where
   turns : List PeerTurn
   each : AllByRecursion (IsPeerTurn n) turns
+  returns : GiveBack s turns
   visits : vs ≡ visits_in turns
   olds : es ≡ map (λ t. t.old) turns
   news : es' ≡ map (λ t. t.new) turns
 
-abbrev peer_turn : Visit → RunEnds → RunEnds → PeerTurn
-peer_turn v e e' = record { visit = v; old = e; new = e' }
+abbrev peer_turn : Visit → ℕ → RunEnds → RunEnds → PeerTurn
+peer_turn v gave e e' = record { visit = v; gave = gave; old = e; new = e' }
 
-zipped-more : (n : ℕ) (e : RunEnds) (es : List RunEnds) (v : Visit) (vs : List Visit) (e' : RunEnds) (es' : List RunEnds) → IsPeerTurn n (peer_turn v e e') → Zipped n es vs es' → Zipped n (e ∷ es) (v ∷ vs) (e' ∷ es')
-zipped-more n e es v vs e' es' here rest = record {
-  turns = peer_turn v e e' ∷ rest.turns;
+zipped-more : (n : ℕ) (s : DomainState) (e : RunEnds) (es : List RunEnds) (v : Visit) (vs : List Visit) (e' : RunEnds) (es' : List RunEnds) (gave : ℕ) → gave ≡ returned_at_once s v → IsPeerTurn n (peer_turn v gave e e') → Zipped n (after_visit s v) es vs es' → Zipped n s (e ∷ es) (v ∷ vs) (e' ∷ es')
+zipped-more n s e es v vs e' es' gave is here rest = record {
+  turns = peer_turn v gave e e' ∷ rest.turns;
   each = (here, rest.each);
+  returns = (is, rest.returns);
   visits = ap (λ (us : List Visit). v ∷ us) rest.visits;
   olds = ap (λ (fs : List RunEnds). e ∷ fs) rest.olds;
   news = ap (λ (fs : List RunEnds). e' ∷ fs) rest.news;
 }
 
-zipped : (n : ℕ) (es : List RunEnds) (vs : List Visit) (numbers : List (List ℕ)) (es' : List RunEnds) → EndsMatch n (map (λ v. v.peer) vs) es → HaveNumbers vs numbers → AllMoved Moved es (turn_moves vs numbers) es' → Zipped n es vs es'
-zipped n [] [] numbers [] matched each moved = record { turns = []; each = tt; visits = refl; olds = refl; news = refl }
-zipped n [] [] numbers (e ∷ es') matched each moved = absurd moved
-zipped n (e ∷ es) [] numbers es' matched each moved = absurd matched
-zipped n [] (v ∷ vs) numbers es' matched each moved = absurd matched
-zipped n (e ∷ es) (v ∷ vs) [] es' matched each moved = absurd each
-zipped n (e ∷ es) (v ∷ vs) (ns ∷ numbers) [] matched each moved = absurd moved
-zipped n (Own a ∷ es) (v ∷ vs) (ns ∷ numbers) (Own b ∷ es') matched each moved =
-    zipped-more n (Own a) es v vs (Own b) es'
-    (subst (λ (o : Bool). NearVisited o v (near_to (Own a)) (near_to (Own b))) (sym (eq-eqb v.peer n matched.0)) (own-visited v ns a b each.0 moved.0))
-    (zipped n es vs numbers es' matched.1 each.1 moved.1)
-zipped n (Linked a ∷ es) (v ∷ vs) (ns ∷ numbers) (Linked b ∷ es') matched each moved =
-    zipped-more n (Linked a) es v vs (Linked b) es'
-    (subst (λ (o : Bool). NearVisited o v (near_to (Linked a)) (near_to (Linked b))) (sym (ne_eqb v.peer n matched.0)) (link-visited v ns v.peer a b matched.1 each.0 moved.0))
-    (zipped n es vs numbers es' matched.2 each.1 moved.1)
-zipped n (Own a ∷ es) (v ∷ vs) (ns ∷ numbers) (Linked b ∷ es') matched each moved = absurd moved.0
-zipped n (Linked a ∷ es) (v ∷ vs) (ns ∷ numbers) (Own b ∷ es') matched each moved = absurd moved.0
+-- the state after a visit, without names
+pub visit-after : (s : DomainState) (v : Visit) (ns : List ℕ) → unnamed (after_deeds s (numbered_deeds v ns)) ≡ after_visit (unnamed s) v
+visit-after s v ns = deeds-unnamed s (numbered_deeds v ns) ∙ ap (after_deeds (unnamed s)) (visit-unnamed (number_in ns) v)
+
+zipped : (n : ℕ) (s : DomainState) (es : List RunEnds) (vs : List Visit) (numbers : List (List ℕ)) (es' : List RunEnds) → EndsMatch n (map (λ v. v.peer) vs) es → HaveNumbers vs numbers → AllMoved Moved es (turn_moves s vs numbers) es' → Zipped n (unnamed s) es vs es'
+zipped n s [] [] numbers [] matched each moved = record { turns = []; each = tt; returns = tt; visits = refl; olds = refl; news = refl }
+zipped n s [] [] numbers (e ∷ es') matched each moved = absurd moved
+zipped n s (e ∷ es) [] numbers es' matched each moved = absurd matched
+zipped n s [] (v ∷ vs) numbers es' matched each moved = absurd matched
+zipped n s (e ∷ es) (v ∷ vs) [] es' matched each moved = absurd each
+zipped n s (e ∷ es) (v ∷ vs) (ns ∷ numbers) [] matched each moved = absurd moved
+zipped n s (Own a ∷ es) (v ∷ vs) (ns ∷ numbers) (Own b ∷ es') matched each moved =
+    zipped-more n (unnamed s) (Own a) es v vs (Own b) es' (gives (visit_taking s v ns)) (visit-returns s v ns each.0)
+    (subst (λ (o : Bool). NearVisited o (gives (visit_taking s v ns)) v (near_to (Own a)) (near_to (Own b))) (sym (eq-eqb v.peer n matched.0)) (own-visited s v ns a b each.0 moved.0))
+    (subst (λ (t : DomainState). Zipped n t es vs es') (visit-after s v ns) (zipped n (after_deeds s (numbered_deeds v ns)) es vs numbers es' matched.1 each.1 moved.1))
+zipped n s (Linked a ∷ es) (v ∷ vs) (ns ∷ numbers) (Linked b ∷ es') matched each moved =
+    zipped-more n (unnamed s) (Linked a) es v vs (Linked b) es' (gives (visit_taking s v ns)) (visit-returns s v ns each.0)
+    (subst (λ (o : Bool). NearVisited o (gives (visit_taking s v ns)) v (near_to (Linked a)) (near_to (Linked b))) (sym (ne_eqb v.peer n matched.0)) (link-visited s v ns v.peer a b matched.1 each.0 moved.0))
+    (subst (λ (t : DomainState). Zipped n t es vs es') (visit-after s v ns) (zipped n (after_deeds s (numbered_deeds v ns)) es vs numbers es' matched.2 each.1 moved.1))
+zipped n s (Own a ∷ es) (v ∷ vs) (ns ∷ numbers) (Linked b ∷ es') matched each moved = absurd moved.0
+zipped n s (Linked a ∷ es) (v ∷ vs) (ns ∷ numbers) (Own b ∷ es') matched each moved = absurd moved.0
 
 -- ---- what stands near
 
@@ -148,22 +159,22 @@ pub record TurnedLanes (far : ℕ → ℕ → Near) (ls : List Lane) (d d' : Run
 
 -- a visit of a link, by what the domain did at its ends before the turn and after it
 abbrev pub VisitedAt : RunDomain → RunDomain → Visit → Type 0
-VisitedAt d d' v = (v.peer == d.state.number) ≡ false → LinkVisited v (near_of d v.peer) (near_of d' v.peer)
+VisitedAt d d' v = (v.peer == d.state.number) ≡ false → (gave : ℕ) × LinkVisited gave v (near_of d v.peer) (near_of d' v.peer)
 
 -- and by what the peer did it is exact
 abbrev pub ExactAt : (ℕ → ℕ → Near) → RunDomain → Visit → Type 0
 ExactAt far d v = (v.peer == d.state.number) ≡ false → Exact v (near_of d v.peer) (far v.peer d.state.number)
 
-visited-false : (v : Visit) (old new : Near) (b : Bool) → b ≡ false → NearVisited b v old new → LinkVisited v old new
-visited-false v old new false e visited = visited
-visited-false v old new true e visited = absurd cc
+visited-false : (gave : ℕ) (v : Visit) (old new : Near) (b : Bool) → b ≡ false → NearVisited b gave v old new → LinkVisited gave v old new
+visited-false gave v old new false e visited = visited
+visited-false gave v old new true e visited = absurd cc
 
 module _ (d d' : RunDomain) (visits : List Visit) (numbers : List (List ℕ)) (turns : Turns Moved visits numbers d d') (matched : EndsMatch d.state.number (peers_of d) d.ends) (differ : Differ (peers_of d)) where
   abbrev n : ℕ
   n = d.state.number
 
-  z : Zipped n d.ends visits d'.ends
-  z = zipped n d.ends visits numbers d'.ends (subst (λ (ps : List ℕ). EndsMatch n ps d.ends) (sym turns.allowed.each_peer) matched) turns.each turns.moved
+  z : Zipped n d.state d.ends visits d'.ends
+  z = subst (λ (s : DomainState). Zipped n s d.ends visits d'.ends) (sym d.nameless) (zipped n d.numbered d.ends visits numbers d'.ends (subst (λ (ps : List ℕ). EndsMatch n ps d.ends) (sym turns.allowed.each_peer) matched) turns.each turns.moved)
 
   peers-in : peers_of d ≡ peers_in z.turns
   peers-in = sym turns.allowed.each_peer ∙ ap (map (λ (v : Visit). v.peer)) z.visits ∙ map-peers z.turns
@@ -186,13 +197,15 @@ module _ (d d' : RunDomain) (visits : List Visit) (numbers : List (List ℕ)) (t
       subst (AllByRecursion (VisitedAt d d')) (sym z.visits)
       (all-map (VisitedAt d d') (λ (t : PeerTurn). t.visit) z.turns
       (all-with (λ t. IsPeerTurn n t × (near_before z.turns (peer_in t) ≡ near_to t.old)) (λ t. near_then z.turns (peer_in t) ≡ near_to t.new) (λ t. VisitedAt d d' t.visit)
-      (λ t is new e.
-      subst (λ (x : Near). LinkVisited t.visit x (near_of d' (peer_in t))) (sym (before (peer_in t) ∙ is.1))
-      (subst (LinkVisited t.visit (near_to t.old)) (sym (then (peer_in t) ∙ new)) (visited-false t.visit (near_to t.old) (near_to t.new) (peer_in t == n) e is.0))) z.turns
+      (λ t is new e. (
+        t.gave,
+        subst (λ (x : Near). LinkVisited t.gave t.visit x (near_of d' (peer_in t))) (sym (before (peer_in t) ∙ is.1))
+            (subst (LinkVisited t.gave t.visit (near_to t.old)) (sym (then (peer_in t) ∙ new)) (visited-false t.gave t.visit (near_to t.old) (near_to t.new) (peer_in t == n) e is.0)),
+      )) z.turns
       (all-with (IsPeerTurn n) (λ t. near_before z.turns (peer_in t) ≡ near_to t.old) (λ t. IsPeerTurn n t × (near_before z.turns (peer_in t) ≡ near_to t.old)) (λ t a b. (a, b)) z.turns z.each (near-each (λ t. t.old) z.turns apart))
       (near-each (λ t. t.new) z.turns apart)))
 
-  module _ (far : ℕ → ℕ → Near) (ls : List Lane) (loads : List Load) (closed : IsClosed d.state) (exact : AllByRecursion (ExactAt far d) visits) where
+  module _ (far : ℕ → ℕ → Near) (ls : List Lane) (loads : List Load) (exact : AllByRecursion (ExactAt far d) visits) where
     exact-turns : AllByRecursion (IsExactTurn n far) z.turns
     exact-turns =
         all-with (λ t. ExactAt far d t.visit) (λ t. near_before z.turns (peer_in t) ≡ near_to t.old) (IsExactTurn n far)
@@ -203,13 +216,13 @@ module _ (d d' : RunDomain) (visits : List Visit) (numbers : List (List ℕ)) (t
     turned-lanes both stands =
         let after : (q : ℕ) → near_after (near_before z.turns) z.turns q ≡ near_of d' q
         = λ q. near-own (near_before z.turns) z.turns q apart refl ∙ sym (then q) in
-        let t = turn-stands n far ls z.turns d.state loads (near_before z.turns) refl closed (subst (AreVisits d.state) z.visits turns.allowed.allowed) z.each apart (near-each (λ t. t.old) z.turns apart)
+        let t = turn-stands n far ls z.turns d.state loads (near_before z.turns) refl z.returns (subst (AreVisits d.state) z.visits turns.allowed.allowed) z.each apart (near-each (λ t. t.old) z.turns apart)
         exact-turns (subst (AllByRecursion (HasBoth ls n)) peers-in both)
         (all-weaken (Stands n (near_of d) far loads) (Stands n (near_before z.turns) far loads) (stands-same n (near_of d) (near_before z.turns) far loads before) ls stands) in
         record {
           visits_are = z.visits ∙ t.visits ∙ ap (visits_to_all d.state loads) (sym peers-in);
           peers = peers-stay;
-          matched = subst (λ (qs : List ℕ). EndsMatch n qs d'.ends) (sym peers-stay) (ends-match n (peers_of d) d.ends (turn_moves visits numbers) d'.ends matched turns.moved);
+          matched = subst (λ (qs : List ℕ). EndsMatch n qs d'.ends) (sym peers-stay) (ends-match n (peers_of d) d.ends (turn_moves d.numbered visits numbers) d'.ends matched turns.moved);
           lanes =
               all-weaken (Stands n (near_after (near_before z.turns) z.turns) far (loads_turned d.state loads)) (Stands n (near_of d') far (loads_turned d.state loads))
               (stands-same n (near_after (near_before z.turns) z.turns) (near_of d') far (loads_turned d.state loads) after) ls

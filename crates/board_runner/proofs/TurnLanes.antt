@@ -5,11 +5,10 @@ use Rattle.std.specs.List.{AllByRecursion}
 use Rattle.board_model.specs.Scenario.{Lane}
 use Rattle.board_model.specs.Journal.{Visit}
 use Rattle.board_model.specs.State.{DomainState}
-use Rattle.board_model.specs.ClosedStates.{IsClosed}
-use Rattle.board_model.specs.Turn.{after_visit, nameless, visit_deeds, IsVisit, AreVisits}
+use Rattle.board_model.specs.Serial.{returned_at_once}
+use Rattle.board_model.specs.Turn.{after_visit, IsVisit, AreVisits}
 use Rattle.board_model.specs.LinkedBoard.{Differ}
 use Rattle.board_model.specs.Loads.{Load, frames_in, returned_in, returned_on, frames_on, with_load, frames_due, frames_seen, visit_to, visits_to_all, loads_after}
-use Rattle.board_model.proofs.ClosedStates.{closed-deeds, returned-alone}
 use Rattle.board_model.proofs.ListsApart.{all-unmap}
 use Rattle.board_model.proofs.MessageAlls.{all-weaken, all-with}
 use Rattle.board_model.proofs.WholeHas.{Has, has-gives}
@@ -20,7 +19,7 @@ use Rattle.board_model.proofs.WholeTurns.{turn_number}
 use Rattle.board_runner.specs.Near.{Near, RunEnds, near_to}
 use Rattle.board_runner.proofs.NearEnds.{NearVisited, OwnVisited}
 use Rattle.board_runner.proofs.TurnVisits.{owed-due, visit-is}
-use Rattle.board_runner.proofs.LanesNear.{LaneStands, Exact, rest-on, near_now, with_near, loads_with, loads_by, CanVisit, lane-visited}
+use Rattle.board_runner.proofs.LanesNear.{LaneStands, Exact, rest-on, near_now, with_near, loads_by, CanVisit, lane-visited}
 
 -- a lane of the board stands at its ends
 abbrev pub Stands : ℕ → (ℕ → Near) → (ℕ → ℕ → Near) → List Load → Lane → Type 0
@@ -52,7 +51,7 @@ record VisitTold (is_own : Bool) (v : Visit) (out into : Load) : Type 0 where
   see : v.see ≡ length (into.frames ++ cond is_own v.owed [])
   first : into.frames ++ cond is_own v.owed [] ≡ frames_of v.takes ++ rest
 
-module _ (n : ℕ) (own : ℕ → Near) (far : ℕ → ℕ → Near) (v : Visit) (new : Near) (loads : List Load) (can : CanVisit n own far v new) where
+module _ (n : ℕ) (own : ℕ → Near) (far : ℕ → ℕ → Near) (v : Visit) (gave : ℕ) (new : Near) (loads : List Load) (can : CanVisit n own far v gave new) where
   link-told : (old to : Near) (out : LaneStands loads n v.peer old to) (into : LaneStands loads v.peer n to old) → Exact v old to → VisitTold false v out.load into.load
   link-told old to out into exact =
       let first = rest-on old.got.taken into.load.frames (frames_of v.takes) exact.rest to.sent.put into.frames exact.first in
@@ -64,7 +63,7 @@ module _ (n : ℕ) (own : ℕ → Near) (far : ℕ → ℕ → Near) (v : Visit)
         first = all ∙ first;
       }
 
-  own-told : (a b : Load) → (own n).got.given ≡ (own v.peer).sent.back + a.returned → (own n).sent.put ≡ (own v.peer).got.taken ++ b.frames → v.peer ≡ n → OwnVisited v (own v.peer) new → VisitTold true v a b
+  own-told : (a b : Load) → (own n).got.given ≡ (own v.peer).sent.back + a.returned → (own n).sent.put ≡ (own v.peer).got.taken ++ b.frames → v.peer ≡ n → OwnVisited gave v (own v.peer) new → VisitTold true v a b
   own-told a b given put at visited =
       let same : own n ≡ own v.peer = ap own (sym at) in
       let frames : (own v.peer).sent.put ≡ b.frames = ap (λ (x : Near). x.sent.put) (sym same) ∙ put ∙ ap (λ (fs : List (List ℕ)). fs ++ b.frames) visited.was.taken in
@@ -80,7 +79,7 @@ module _ (n : ℕ) (own : ℕ → Near) (far : ℕ → ℕ → Near) (v : Visit)
   told-here out into = go (v.peer == n) refl (n == n) (eq-eqb n n refl) out into can.visited can.exact
     where
       go : (x : Bool) → (v.peer == n) ≡ x → (y : Bool) → y ≡ true → (out : LaneStands loads n v.peer (cond y (own v.peer) (far n v.peer)) (cond x (own n) (far v.peer n))) (into : LaneStands loads v.peer n (cond x (own n) (far v.peer n)) (cond y (own v.peer) (far n v.peer)))
-          → NearVisited x v (own v.peer) new → (x ≡ false → Exact v (own v.peer) (far v.peer n)) → VisitTold x v out.load into.load
+          → NearVisited x gave v (own v.peer) new → (x ≡ false → Exact v (own v.peer) (far v.peer n)) → VisitTold x v out.load into.load
       go true is true e out into visited exact =
           let at : v.peer ≡ n = eqb-true v.peer n is in
           own-told out.load into.load out.returned into.frames at visited
@@ -108,9 +107,10 @@ module _ (n : ℕ) (own : ℕ → Near) (far : ℕ → ℕ → Near) (v : Visit)
 
 -- ---- a turn
 
--- what a turn does at the ends towards a peer
+-- what a turn does at the ends towards a peer, and how many buffers it gives back
 pub record PeerTurn : Type 0 where
   pub visit : Visit
+  pub gave : ℕ
   pub old : RunEnds
   pub new : RunEnds
 
@@ -124,7 +124,12 @@ abbrev pub peers_in : List PeerTurn → List ℕ
 peers_in ts = map peer_in ts
 
 abbrev pub IsPeerTurn : ℕ → PeerTurn → Type 0
-IsPeerTurn n t = NearVisited (peer_in t == n) t.visit (near_to t.old) (near_to t.new)
+IsPeerTurn n t = NearVisited (peer_in t == n) t.gave t.visit (near_to t.old) (near_to t.new)
+
+-- they give back as many buffers as their visits, one after the other from a state
+abbrev pub GiveBack : DomainState → List PeerTurn → Type 0
+GiveBack s [] = Unit {0}
+GiveBack s (t ∷ ts) = (t.gave ≡ returned_at_once s t.visit) × GiveBack (after_visit s t.visit) ts
 
 -- it is exact, by what the peer did
 abbrev pub IsExactTurn : ℕ → (ℕ → ℕ → Near) → PeerTurn → Type 0
@@ -146,33 +151,33 @@ module _ (n : ℕ) (far : ℕ → ℕ → Near) (ls : List Lane) where
       all-with (λ t. peer_in t ≡ p → ⊥) (λ t. own (peer_in t) ≡ near_to t.old) (λ t. with_near p new own (peer_in t) ≡ near_to t.old)
       (λ t other at. ap (λ (b : Bool). cond b new (own (peer_in t))) (ne_eqb (peer_in t) p other) ∙ at) ts (all-unmap (λ q. q ≡ p → ⊥) peer_in ts differ) near
 
-  pub turn-stands : (ts : List PeerTurn) (s : DomainState) (loads : List Load) (own : ℕ → Near) → s.number ≡ n → IsClosed s → AreVisits s (visits_in ts) → AllByRecursion (IsPeerTurn n) ts → Differ (peers_in ts) → AllByRecursion (λ t. own (peer_in t) ≡ near_to t.old) ts
+  pub turn-stands : (ts : List PeerTurn) (s : DomainState) (loads : List Load) (own : ℕ → Near) → s.number ≡ n → GiveBack s ts → AreVisits s (visits_in ts) → AllByRecursion (IsPeerTurn n) ts → Differ (peers_in ts) → AllByRecursion (λ t. own (peer_in t) ≡ near_to t.old) ts
       → AllByRecursion (IsExactTurn n far) ts → AllByRecursion (HasBoth ls n) (peers_in ts) → AllByRecursion (Stands n own far loads) ls → TurnStands n far ls s loads own ts
-  turn-stands [] s loads own e closed are each differ near exact both stands = record { visits = refl; lanes = stands }
-  turn-stands (t ∷ ts) s loads own e closed are each differ near exact both stands =
+  turn-stands [] s loads own e gives are each differ near exact both stands = record { visits = refl; lanes = stands }
+  turn-stands (t ∷ ts) s loads own e gives are each differ near exact both stands =
       let v = t.visit in
       let p = peer_in t in
       let new = near_to t.new in
-      let can : CanVisit n own far v new = record {
-        visited = subst (λ (x : Near). NearVisited (p == n) v x new) (sym near.0) each.0;
+      let can : CanVisit n own far v t.gave new = record {
+        visited = subst (λ (x : Near). NearVisited (p == n) t.gave v x new) (sym near.0) each.0;
         exact = λ h. subst (λ (x : Near). Exact v x (far p n)) (sym near.0) (exact.0 h);
       } in
       let out = stands-at n own far loads ls n p stands both.0.out in
       let into = stands-at n own far loads ls p n stands both.0.into in
-      let is : v ≡ visit_to s loads p = visit-here n own far v new loads can s e are.0 out into in
-      let after : AllByRecursion (Stands n (with_near p new own) far (loads_by n v loads)) ls
-      = all-weaken (Stands n own far loads) (Stands n (with_near p new own) far (loads_by n v loads)) (λ l h. lane-visited n own far v new loads can l.sender l.receiver h) ls stands in
-      let rest = turn-stands ts (after_visit s v) (loads_by n v loads) (with_near p new own) (turn_number s (v ∷ []) ∙ e) (closed-deeds s (visit_deeds nameless v) closed) are.1 each.1 differ.1 (others_near p new own ts differ.0 near.1) exact.1 both.1 after in
+      let is : v ≡ visit_to s loads p = visit-here n own far v t.gave new loads can s e are.0 out into in
+      let after : AllByRecursion (Stands n (with_near p new own) far (loads_by n v t.gave loads)) ls
+      = all-weaken (Stands n own far loads) (Stands n (with_near p new own) far (loads_by n v t.gave loads)) (λ l h. lane-visited n own far v t.gave new loads can l.sender l.receiver h) ls stands in
+      let rest = turn-stands ts (after_visit s v) (loads_by n v t.gave loads) (with_near p new own) (turn_number s (v ∷ []) ∙ e) gives.1 are.1 each.1 differ.1 (others_near p new own ts differ.0 near.1) exact.1 both.1 after in
       let w : Visit = visit_to s loads p in
-      let gives = sym (returned-alone s w closed) in
+      let gave : t.gave ≡ returned_at_once s w = gives.0 ∙ ap (returned_at_once s) is in
       record {
         visits =
             ap (λ (vs : List Visit). v ∷ vs) rest.visits
-            ∙ ap (λ (x : Visit). x ∷ visits_to_all (after_visit s x) (loads_by n x loads) (peers_in ts)) is
-            ∙ ap (λ (m : ℕ). w ∷ visits_to_all (after_visit s w) (loads_by m w loads) (peers_in ts)) (sym e)
-            ∙ ap (λ (k : ℕ). w ∷ visits_to_all (after_visit s w) (loads_with s.number w k loads) (peers_in ts)) gives;
+            ∙ ap (λ (x : Visit). x ∷ visits_to_all (after_visit s x) (loads_by n x t.gave loads) (peers_in ts)) is
+            ∙ ap (λ (m : ℕ). w ∷ visits_to_all (after_visit s w) (loads_by m w t.gave loads) (peers_in ts)) (sym e)
+            ∙ ap (λ (k : ℕ). w ∷ visits_to_all (after_visit s w) (loads_by s.number w k loads) (peers_in ts)) gave;
         lanes =
-            subst (λ (k : ℕ). AllByRecursion (Stands n (near_after own (t ∷ ts)) far (loads_after (after_visit s w) (loads_with s.number w k loads) (peers_in ts))) ls) gives
-            (subst (λ (m : ℕ). AllByRecursion (Stands n (near_after own (t ∷ ts)) far (loads_after (after_visit s w) (loads_by m w loads) (peers_in ts))) ls) (sym e)
-            (subst (λ (x : Visit). AllByRecursion (Stands n (near_after own (t ∷ ts)) far (loads_after (after_visit s x) (loads_by n x loads) (peers_in ts))) ls) is rest.lanes));
+            subst (λ (k : ℕ). AllByRecursion (Stands n (near_after own (t ∷ ts)) far (loads_after (after_visit s w) (loads_by s.number w k loads) (peers_in ts))) ls) gave
+            (subst (λ (m : ℕ). AllByRecursion (Stands n (near_after own (t ∷ ts)) far (loads_after (after_visit s w) (loads_by m w t.gave loads) (peers_in ts))) ls) (sym e)
+            (subst (λ (x : Visit). AllByRecursion (Stands n (near_after own (t ∷ ts)) far (loads_after (after_visit s x) (loads_by n x t.gave loads) (peers_in ts))) ls) is rest.lanes));
       }

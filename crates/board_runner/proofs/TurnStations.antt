@@ -15,7 +15,6 @@ use Rattle.board_model.specs.Tallies.{deleted_in}
 use Rattle.board_model.specs.Turn.{after_turn}
 use Rattle.board_model.specs.SerialRun as run
 use Rattle.board_model.specs.SerialRun.{entered}
-use Rattle.board_model.proofs.ClosedStates.{closed-turn}
 use Rattle.board_model.proofs.ListsJoined.{entry_lines, sum-joined}
 use Rattle.board_model.proofs.MessageAlls.{all-append}
 use Rattle.board_model.proofs.SerialRequests.{turn_serials, turn_gives}
@@ -142,7 +141,6 @@ station-turned s t st visits numbers d' j h turns told peers matched =
           h.dropped ∙ ap (sum_by (deleted_in (script s t.line.domain))) h.told
           ∙ sym (deleted-turned (script s t.line.domain) t.entries visits) ∙ ap (sum_by (deleted_in (script s t.line.domain))) (sym lines);
       own = turn_number t.run.state visits ∙ h.own;
-      closed = closed-turn t.run.state visits h.closed;
       domain_number = h.domain_number;
       peers = peers ∙ h.peers;
       matched = matched;

@@ -95,7 +95,6 @@ begun-station s t st j h told =
       held = h.held;
       dropped = omega (arith, h.dropped, ap (sum_by (deleted_in sc)) h.told, ap (sum_by (deleted_in sc)) lines, deleted-noted sc t.entries (waits k), sum_by-cons (deleted_in sc) (wait_line k) []);
       own = h.own;
-      closed = h.closed;
       domain_number = h.domain_number;
       peers = h.peers;
       matched = h.matched;
@@ -125,7 +124,6 @@ nothing-station s t st node call d a h does nothing =
       };
       dropped = h.dropped;
       own = h.own;
-      closed = h.closed;
       domain_number = h.domain_number;
       peers = same_peers ∙ h.peers;
       matched =

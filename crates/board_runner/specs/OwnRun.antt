@@ -1,7 +1,7 @@
 -- A domain that runs its script on its own, whatever the other domains do.
 -- Source: docs/PROFILE.md, "Runs", "Lanes" and "Tries". Between two calls of a line with tries it makes only the turns of its calls.
-use Rattle.std.specs.Prelude.{◌≡◌, ℕ, ◌+◌, ◌*◌, ◌≤◌, ◌^◌, List, [], ◌∷◌, ◌++◌, map, slice_get, None, Some}
-use Rattle.std.specs.List.{AllByRecursion, flat_map}
+use Rattle.std.specs.Prelude.{◌≡◌, ℕ, ◌+◌, ◌*◌, ◌≤◌, ◌^◌, ◌==◌, List, [], ◌∷◌, ◌++◌, map, slice_get, None, Some, if◌then◌else◌}
+use Rattle.std.specs.List.{AllByRecursion}
 use Rattle.lane_end.specs.AnySender.{AnySends}
 use Rattle.lane_end.specs.AnyReceiver.{AnyReceives}
 use Rattle.lane_end.specs.ReceiveMoves.{Took, Gave}
@@ -18,7 +18,8 @@ use Rattle.board_model.specs.Step.{RunState, HasNoPuts, next_line, after}
 use Rattle.board_model.specs.Run.{start, Leads, left_by, IsDomainRun, IsWhole}
 use Rattle.board_model.specs.SerialRun as run
 use Rattle.board_model.specs.SerialRun.{opened_station}
-use Rattle.board_model.specs.Traffic.{visits_to, puts_in, returned_by}
+use Rattle.board_model.specs.Traffic.{puts_in, returned_by}
+use Rattle.board_model.specs.Turn.{after_visit}
 use Rattle.domain_core.specs.AllMoved.{AllMoved}
 use Rattle.domain_core.specs.Ends.{EndsMoved}
 use Rattle.domain_core.specs.LaneMoves.{LaneMove, sender, receiver, receives}
@@ -37,13 +38,18 @@ unnumbered (receiver (Took n frame)) = receiver (Took 0 frame)
 unnumbered (receiver (Gave n)) = receiver (Gave 0)
 unnumbered (receiver m) = receiver m
 
--- those of a visit
-abbrev pub visit_told : Visit → List LaneMove
-visit_told v = visit_moves v (map (λ t. 0) v.takes)
+-- those of a visit from a state
+abbrev pub visit_told : DomainState → Visit → List LaneMove
+visit_told s v = visit_moves s v (map (λ t. 0) v.takes)
 
--- those of an entry at the ends towards a peer: of its visit, of a frame that is put to it, and of buffers that go back to it
+-- and of the visits of a turn at the ends towards a peer
+abbrev pub turn_told : ℕ → DomainState → List Visit → List LaneMove
+turn_told peer s [] = []
+turn_told peer s (v ∷ vs) = (if v.peer == peer then visit_told s v else []) ++ turn_told peer (after_visit s v) vs
+
+-- those of an entry: of its visit, of a frame that is put to the peer, and of buffers that go back to it
 abbrev pub entry_told : List CallLine → RunState → ℕ → PlainEntry → List LaneMove
-entry_told lines r peer (turned visits) = flat_map visit_told (visits_to peer visits)
+entry_told lines r peer (turned visits) = turn_told peer r.state visits
 entry_told lines r peer (put to frame) = putting (puts_in peer (put to frame))
 entry_told lines r peer (again word) = []
 entry_told lines r peer (waits k) = []

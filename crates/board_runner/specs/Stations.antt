@@ -7,7 +7,6 @@ use Rattle.mc_base.specs.declared.request.PacketId.{PacketId}
 use Rattle.mc_base.specs.declared.request.RequestId.{RequestId}
 use Rattle.board_model.specs.declared.scenario.DomainLine.{DomainLine}
 use Rattle.board_model.specs.declared.scenario.Scenario.{Scenario}
-use Rattle.board_model.specs.ClosedStates.{IsClosed}
 use Rattle.board_model.specs.Scenario.{Lane, lanes, script, rising, neighbours}
 use Rattle.board_model.specs.Journal.{joined}
 use Rattle.board_model.specs.Labels.{Labelled, Labels, serial_of}
@@ -88,7 +87,6 @@ pub record IsStation (s : Scenario) (t : run.Station) (st : Station) : Type 0 wh
   pub held : HoldsLabels st.domain st.ids st.packets t.run.labels t.run.lines_called
   pub dropped : st.dropped ≡ sum_by (deleted_in (script s t.line.domain)) st.journal.lines
   pub own : t.run.state.number ≡ t.line.domain
-  pub closed : IsClosed t.run.state
   pub domain_number : st.domain_number ≡ t.line.domain
   pub peers : peers_of st.domain ≡ map (λ n. n.number) (neighbours s t.line)
   pub matched : EndsMatch t.line.domain (peers_of st.domain) st.domain.ends

@@ -38,7 +38,7 @@ module _ {L : Type 0} (Moved : L → List LaneMove → L → Type 0) (none : (l 
   turn-goes : (visits : List Visit) (numbers : List (List ℕ)) (old new : DomainView L) → Turns Moved visits numbers old new → Goes Moved old new
   turn-goes visits numbers old new turn = record {
     number = ap (λ (s : DomainState). s.number) turn.state ∙ turn_number old.state visits;
-    moves = turn_moves visits numbers;
+    moves = turn_moves old.numbered visits numbers;
     moved = turn.moved;
   }
 

@@ -101,8 +101,8 @@ fn made<S: SendEnd, R: RecvEnd>(
     journal: &mut Journal,
     call: Call,
 ) -> Option<Result<u32, Refusal>>
-    requires entry_room { 160 ≤ journal.old.entry_room }
-    requires byte_room { 67584 ≤ journal.old.byte_room }
+    requires entry_room { 176 ≤ journal.old.entry_room }
+    requires byte_room { 90112 ≤ journal.old.byte_room }
     ensures { Goes (EndsMoved S.Moved R.Moved) domain.old domain.new }
 {
     match call {
@@ -139,8 +139,8 @@ fn sent<S: SendEnd, R: RecvEnd>(
     byte: u8,
     size: usize,
 ) -> Option<Result<u32, Refusal>>
-    requires entry_room { 160 ≤ journal.old.entry_room }
-    requires byte_room { 67584 ≤ journal.old.byte_room }
+    requires entry_room { 176 ≤ journal.old.entry_room }
+    requires byte_room { 90112 ≤ journal.old.byte_room }
     ensures { Goes (EndsMoved S.Moved R.Moved) domain.old domain.new }
 {
     let Some(priority) = Priority::new(priority) else {
@@ -165,8 +165,8 @@ fn received<S: SendEnd, R: RecvEnd>(
     max: usize,
     byte: u8,
 ) -> Option<Result<u32, Refusal>>
-    requires entry_room { 160 ≤ journal.old.entry_room }
-    requires byte_room { 67584 ≤ journal.old.byte_room }
+    requires entry_room { 176 ≤ journal.old.entry_room }
+    requires byte_room { 90112 ≤ journal.old.byte_room }
     ensures { Goes (EndsMoved S.Moved R.Moved) domain.old domain.new }
 {
     let mut buffer = [0xee; 488];
@@ -198,7 +198,7 @@ fn answers<S: SendEnd, R: RecvEnd>(
     journal: &mut Journal,
     (call, due): Answered,
 ) -> Result<bool, NoMemory> {
-    journal.reserve(160, 67_584)?;
+    journal.reserve(176, 90_112)?;
     Ok(made(domain, journal, call) == Some(due))
 }
 
@@ -407,7 +407,7 @@ const LINES_OF_CALLS: [Line; 7] = [
 
 fn make_all(lone: &mut Lone, calls: &[Call]) -> Result<(), NoMemory> {
     for call in calls {
-        lone.journal.reserve(160, 67_584)?;
+        lone.journal.reserve(176, 90_112)?;
         made(&mut lone.domain, &mut lone.journal, *call);
     }
     Ok(())

@@ -20,7 +20,7 @@ use Rattle.domain_parts.specs.InPlaces.{AreInPlaces, EachInPlace, slots_of}
 use Rattle.domain_parts.specs.InRequests.{IsReceive, handed_slots, slots_in}
 use Rattle.domain_parts.specs.Out.{Out}
 use Rattle.domain_parts.specs.Peers.{state_in}
-use Rattle.domain_parts.specs.Records.{Records, all_waiting, lent_slots}
+use Rattle.domain_parts.specs.Records.{Records, all_waiting, lent_slots, part_slots}
 use Rattle.domain_parts.specs.Sound.{AreSound, out_at}
 use Rattle.domain_parts.specs.Steps.{with_last}
 use Rattle.domain_parts.proofs.Beginning.{last-receives, new_standing}
@@ -44,7 +44,7 @@ same-handed q id a o none = go q.standing
     go (r ∷ rs) = ap (λ (ss : List Slot). slots_in r.complete ++ ss) (go rs)
 
 same-slots : (r : Records) (q : Requests) (id : RequestId) (a : Ask) (o : Option Complete) → slots_in o ≡ [] → slots_of r (with_last q id a o) ≡ slots_of r q
-same-slots r q id a o none = ap (λ (ss : List Slot). slots (all_waiting r.endpoints) ++ ss) (same-handed q id a o none)
+same-slots r q id a o none = ap (λ (ss : List Slot). part_slots r.parts ++ (slots (all_waiting r.endpoints) ++ ss)) (same-handed q id a o none)
 
 asked-places : (number : ℕ) (r : Records) (q : Requests) (b : Book) (out : Out) (id : RequestId) (a : Ask) (o : Option Complete) → slots_in o ≡ [] → AreInPlaces number r q b out → AreInPlaces number r (with_last q id a o) b out
 asked-places number r q b out id a o none places =
@@ -52,6 +52,7 @@ asked-places number r q b out id a o none places =
       each = subst (λ (ss : List Slot). EachInPlace number out ss (lent_slots r) b []) (sym (same-slots r q id a o none)) places.each;
       priorities = places.priorities;
       lent = places.lent;
+      parts = places.parts;
     }
 
 module _ {L : Type 0} (v : L → LaneSeen) (b : Book) (r : Records) (q : Requests) (t : endpoint_table.Table) (ps : List (Peer L)) (id : RequestId) (a : Ask) (o : Option Complete) where

@@ -5,11 +5,11 @@ use Rattle.std.proofs.lemmas.Bool.{eqb-true, eqb-false, and_parts, and_from, bot
 use Rattle.std.proofs.lemmas.Option.{option_and_then_some}
 use Rattle.mc_base.specs.Numbers.{often}
 use Rattle.mc_base.specs.declared.request.Slot.{Slot}
-use Rattle.buffer_book.specs.Book.{Book, IsAway, IsFree, Item, Kept, NoneAside, Shelf, frames_of, is_state, item_at, kept_at, left_of, lent_on, lent_under, name_at, place_at, shelf_of, taken, with_lent, with_own, with_queued, with_shelf, with_taken, enqueued}
+use Rattle.buffer_book.specs.Book.{Book, IsAway, IsFree, Item, Kept, NoneAside, Shelf, frames_of, is_state, item_at, kept_at, left_of, lent_on, lent_under, name_at, place_at, shelf_of, taken, with_lent, with_own, with_queued, with_shelf, with_taken, enqueued, joined, with_frame, with_joined}
 use Rattle.buffer_book.proofs.Sets.{set-other}
 use Rattle.buffer_book.proofs.ShelfLemmas.{KeepsPeer, enqueued-peer, taken-peer}
-use Rattle.buffer_book.proofs.ItemLemmas.{at-other_peer, at-own, enqueued-name, enqueued-name_kept, enqueued-place, enqueued-place_kept, item-name, lent-name, lent-name_kept, lent-place_kept, name-item, single, taken-name, taken-name_kept, taken-place, taken-shelf}
-use Rattle.buffer_book.proofs.NoneAside.{none-enqueued, none-lent, none-taken}
+use Rattle.buffer_book.proofs.ItemLemmas.{at-other_peer, at-own, enqueued-name, enqueued-name_kept, enqueued-place, enqueued-place_kept, item-name, joined-name, joined-name_kept, joined-place, joined-place_kept, lent-name, lent-name_kept, lent-place_kept, name-item, single, taken-name, taken-name_kept, taken-place, taken-shelf}
+use Rattle.buffer_book.proofs.NoneAside.{none-enqueued, none-joined, none-lent, none-taken}
 use Rattle.domain_parts.specs.InBook.{Whole, frames_at, frames_in, pieces_of, slot_at, whole_at, whole_of}
 use Rattle.domain_parts.specs.InPlaces.{is_same}
 use Rattle.domain_parts.specs.Steps.{without_frames}
@@ -191,7 +191,40 @@ module _ (b : Book) (s : Slot) (k : Kept) (free : IsFree b s) (away : IsAway b s
     shelves = shelf-there b s.peer (enqueued s.buffer k) (enqueued-peer s.buffer k);
   }
 
+-- ---- a buffer joins an item
+
+module _ (b : Book) (s : Slot) (k : Kept) (i : Item) (is : item_at b s ≡ Some i) (away : IsAway b (slot_at s.peer k.buffer.number)) where
+  abbrev joins : Slot
+  joins = slot_at s.peer k.buffer.number
+
+  joined-there : (t : Slot) → is_same s t ≡ false → name_at (with_joined b s k) t ≡ name_at b t
+  joined-there t differ = name-there b s t (joined s.buffer k.buffer.number k) (λ x. refl) differ (λ other. joined-name_kept b s t k other)
+
+  joins-there : (f : Slot) → is_same joins f ≡ false → place_at (with_joined b s k) f ≡ place_at b f
+  joins-there f differ = place-there b joins f (joined s.buffer k.buffer.number k) (λ x. refl) differ (λ other. joined-place_kept b s f k other)
+
+  pub joined-changes : Changes b (with_joined b s k) s (k.buffer.number ∷ []) (Some (with_frame k.buffer.number i))
+  joined-changes = record {
+    name = joined-name b s k i is;
+    items = λ t differ. item-by b (with_joined b s k) t (joined-there t differ);
+    places = λ f apart. joins-there f (not-own joins f apart);
+    names = each-slot s (λ t. is_some (name_at (with_joined b s k) t) ≡ is_some (name_at b t))
+        (ap (λ (o : Option (Option Item)). is_some o) (joined-name b s k i is) ∙ sym (ap (λ (o : Option (Option Item)). is_some o) (name-item b s i is)))
+        (λ t differ. ap (λ (o : Option (Option Item)). is_some o) (joined-there t differ));
+    known = each-slot joins (λ f. is_some (place_at (with_joined b s k) f) ≡ is_some (place_at b f))
+        (ap (λ (o : Option (Option Kept)). is_some o) (joined-place b s k away) ∙ sym (ap (λ (o : Option (Option Kept)). is_some o) away))
+        (λ f differ. ap (λ (o : Option (Option Kept)). is_some o) (joins-there f differ));
+    aside = none-joined b s k;
+    shelves = joined-shelves_of;
+  }
+    where
+      joined-shelves_of : (n : ℕ) → is_some (shelf_of (with_joined b s k) n) ≡ is_some (shelf_of b n)
+      joined-shelves_of = shelf-there b s.peer (joined s.buffer k.buffer.number k) (λ x. refl)
+
 -- the same peers have shelves
+pub joined-shelves : (b : Book) (s : Slot) (k : Kept) (n : ℕ) → is_some (shelf_of (with_joined b s k) n) ≡ is_some (shelf_of b n)
+joined-shelves b s k = shelf-there b s.peer (joined s.buffer k.buffer.number k) (λ x. refl)
+
 pub queued-shelves : (b : Book) (s : Slot) (k : Kept) (n : ℕ) → is_some (shelf_of (with_queued b s k) n) ≡ is_some (shelf_of b n)
 queued-shelves b s k = shelf-there b s.peer (enqueued s.buffer k) (enqueued-peer s.buffer k)
 

@@ -22,7 +22,7 @@ use Rattle.domain_parts.specs.Calls.{Calls, Does, IsFresh, success_releases}
 use Rattle.domain_parts.specs.CallSteps.{Acted, Acts, Rests, Succeeds, call_steps}
 use Rattle.domain_parts.specs.DomainView.{DomainView}
 use Rattle.domain_parts.specs.LaneMoves.{LaneMove}
-use Rattle.domain_parts.specs.Parts.{Holding, Parts, plain, shown, state_of}
+use Rattle.domain_parts.specs.Parts.{Holding, Parts, plain, shown, state_of, parts_read}
 use Rattle.domain_parts.specs.Steps.{all_moves}
 use Rattle.domain_parts.specs.Turned.{MakesTurn}
 use Rattle.domain_parts.proofs.Calling.{puts-done, puts-nothing}
@@ -51,7 +51,7 @@ module _ {L : Type 0} (M : L → List LaneMove → L → Type 0) (node : ℕ) (c
   moved-in frames is items back f same ends moved =
       subst (λ (is : List state.Item). AllMoved M old.ends (call_moves (puts u node call) is (map (λ (x : state.Peer). x.number) u.peers)) ends) back
       (subst (λ (fs : List (ℕ × List ℕ)). AllMoved M old.ends (call_moves fs items (map (λ (x : state.Peer). x.number) s.peers)) ends) (is ∙ sym (puts-renamed no_names s node call))
-      (subst (λ (ns : List ℕ). AllMoved M old.ends (call_moves frames items ns) ends) (sym (numbers-in plain p.table p.peers))
+      (subst (λ (ns : List ℕ). AllMoved M old.ends (call_moves frames items ns) ends) (sym (numbers-in plain (parts_read p) p.table p.peers))
       (subst (λ ms. AllMoved M old.ends ms ends) (map-same f (moves_at frames items) same (numbers_of p.peers)) moved)))
 
   fresh-in : (o : Option RequestId) → IfSome o (IsFresh (ids_in p.requests) s) → IfSome o (IsFresh (ids_in p.requests) u)

@@ -1,10 +1,11 @@
 -- What a call answers and leaves, by the first word of refusal that holds.
-use Rattle.std.proofs.Common.{◌≡◌, ℕ, ◌+◌, ◌<◌, Bool, false, cond, List, [], length, Option, Some, None, refl, sym, ap, ◌∙◌, arith}
+use Rattle.std.proofs.Common.{◌≡◌, ℕ, ◌+◌, ◌<◌, Bool, false, cond, List, [], length, map, Option, Some, None, refl, sym, ap, ◌∙◌, arith}
 use Rattle.std.specs.Prelude.{is_some, not, nat_le}
 use Rattle.mc_base.specs.declared.refusal.Refusal.{Refusal}
 use Rattle.mc_base.specs.declared.refusal.Refusal.TheVariants.{NodeInvalid, ExistsAlready, EndpLimit, AddressSpent, RequestInvalid, Pending, TooLate}
 use Rattle.board_model.specs.DomainCall.{DomainCall, create_at, test_of, cancel_of}
-use Rattle.board_model.specs.Journal.{refuses}
+use Rattle.board_model.specs.Journal.{Line, noted_all, refuses}
+use Rattle.board_model.specs.Serial.{put_entry}
 use Rattle.board_model.specs.State.{DomainState, Request, request_at_place, place_at}
 use Rattle.board_model.specs.Answer.{is_complete, answer, answer_by, puts, refusal, success, success_puts, unless_refused, local}
 
@@ -18,6 +19,10 @@ answer-done s node call e = ap (λ (o : Option Refusal). answer_by o (success s 
 
 pub puts-done : (s : DomainState) (node : ℕ) (call : DomainCall) → refusal s node call ≡ None → puts s node call ≡ success_puts s node call
 puts-done s node call e = ap (λ (o : Option Refusal). unless_refused o [] (success_puts s node call)) e
+
+-- a refused call notes nothing
+pub nothing-noted : (s : DomainState) (node : ℕ) (call : DomainCall) (word : Refusal) (lines : List Line) → refusal s node call ≡ Some word → lines ≡ noted_all lines (map put_entry (puts s node call))
+nothing-noted s node call word lines e = ap (λ (o : Option Refusal). noted_all lines (map put_entry (unless_refused {A = List (ℕ × List ℕ)} o [] (success_puts s node call)))) (sym e)
 
 either : (o : Option Refusal) → unless_refused {A = List (ℕ × List ℕ)} o [] [] ≡ []
 either None = refl

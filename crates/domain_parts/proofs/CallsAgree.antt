@@ -1,19 +1,16 @@
 -- Calls: what a success changes at once is the state to which its changes lead, and the items that it returns are the same.
 use Rattle.std.proofs.Common.{◌≡◌, ℕ, Bool, false, List, [], ◌∷◌, map, Option, Some, None, refl, sym, ap, ap₂, ◌∙◌}
 use Rattle.std.specs.Prelude.{find, option_map, option_to_list, is_some, unwrap_or}
-use Rattle.mc_base.specs.Letter.{msg}
-use Rattle.mc_base.specs.Pieces.{frames_needed}
 use Rattle.mc_base.specs.declared.name.Local.{Local}
-use Rattle.mc_base.specs.declared.name.EndName.{EndName}
 use Rattle.mc_base.specs.declared.refusal.Refusal.TheVariants.{EndpInvalid}
 use Rattle.board_model.specs.Lists.{changed_first, with_rising, without}
 use Rattle.board_model.specs.State as state
 use Rattle.board_model.specs.State.{Item, Endpoint, message_at, has_item, DomainState, is_at, is_numbered, place_at, live_at, address_at, queue_in, queue_at}
 use Rattle.board_model.specs.Choice.{best, oldest}
-use Rattle.board_model.specs.DomainCall.{DomainCall, create_at, delete_at, send_from, receive_at, request_at, test_of, wait_for, close_at, release_of, raw_to, scalar_at}
+use Rattle.board_model.specs.DomainCall.{DomainCall, create_at, delete_at, receive_at, request_at, test_of, wait_for, close_at, release_of, raw_to, scalar_at}
 use Rattle.mc_base.specs.declared.channel.Side.TheVariants.{Receiver, Sender}
 use Rattle.board_model.specs.Answer.{local}
-use Rattle.board_model.specs.Change.{endpoint_gone, best_gone, request_added, waiting_ended, end_announced, buffers_used, ended_in, changed, changed_all}
+use Rattle.board_model.specs.Change.{endpoint_gone, best_gone, request_added, waiting_ended, end_announced, ended_in, changed, changed_all}
 use Rattle.board_model.specs.CallChanges.{at_live, best_item, success_changes, success_returned}
 use Rattle.board_model.proofs.MessageAlls.{found-passes}
 use Rattle.board_model.proofs.MessageLists.{changed-position, without-position, get-position, some-position}
@@ -62,9 +59,6 @@ module _ (u : DomainState) where
 
   pub raw-agrees : (node to : ℕ) (bytes : List ℕ) → with_used u to ≡ changed_all u (success_changes u node (raw_to to bytes))
   raw-agrees node to bytes = ap (λ ps. record u { peers = ps }) (changed-position (is_numbered to) used_one u.peers)
-
-  pub send-agrees : (node port : ℕ) (to : EndName) (priority : ℕ) (bytes : List ℕ) → frames_needed (msg priority bytes) ≡ 1 → with_used u to.domain ≡ changed_all u (success_changes u node (send_from port to priority bytes))
-  send-agrees node port to priority bytes one = raw-agrees node to.domain [] ∙ sym (ap (λ n. changed u (buffers_used to.domain n)) one)
 
   pub create-agrees : (at : Local) → with_endpoint u at ≡ changed_all u (success_changes u at.node (create_at at.port))
   create-agrees at = refl

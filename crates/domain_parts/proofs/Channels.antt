@@ -1,20 +1,20 @@
 -- Ends of channels as a domain has them, the words of the calls at them, and the letters that these put.
 use Rattle.std.proofs.Common.{◌≡◌, ℕ, ◌<◌, Bool, true, false, cond, List, [], ◌∷◌, length, Option, Some, None, is_some, refl, sym, ap, ap₂, ◌∙◌, arith}
-use Rattle.std.specs.Prelude.{Ok, Err, find, nat_le, nat_lt, not, option_map, slice_get, ◌==◌, ◌||◌}
-use Rattle.std.specs.List.{list_any}
-use Rattle.std.proofs.lemmas.List.{length-map}
-use Rattle.mc_base.specs.Letter.{PlainLetter}
-use Rattle.mc_base.specs.Limits.{request_limit, channel_limit}
+use Rattle.std.specs.Prelude.{Ok, Err, find, nat_le, nat_lt, not, option_map, slice_get, unwrap_or, ◌==◌, ◌||◌}
+use Rattle.std.specs.List.{flat_map, list_any}
+use Rattle.std.proofs.lemmas.List.{append-nil, length-map}
+use Rattle.mc_base.specs.Letter.{PlainLetter, msg}
+use Rattle.mc_base.specs.Limits.{request_limit, channel_limit, item_size}
 use Rattle.mc_base.specs.declared.channel.Kind.{Kind}
 use Rattle.mc_base.specs.declared.channel.Side.{Side}
 use Rattle.mc_base.specs.declared.name.EndName.{EndName}
 use Rattle.mc_base.specs.declared.name.Local.{Local}
 use Rattle.mc_base.specs.declared.refusal.Refusal.{Refusal}
-use Rattle.mc_base.specs.declared.refusal.Refusal.TheVariants.{AlreadyOpen, ChanClosed, ChanConnected, ChanDirection, ChanLimit, ChanType, EndpBusy, EndpInvalid, NoBuffer, NotConnected, NotOpen, PeerInvalid, RequestLimit}
+use Rattle.mc_base.specs.declared.refusal.Refusal.TheVariants.{AlreadyOpen, ChanClosed, ChanConnected, ChanDirection, ChanLimit, ChanType, EndpBusy, EndpInvalid, MsgSize, NoBuffer, NotConnected, NotOpen, OnChannel, PeerInvalid, RequestLimit}
 use Rattle.board_model.proofs.MessageLists.{get-position}
-use Rattle.board_model.specs.Answer.{address_of, channel_at, end_holds, has_channel, lacks_buffers, local, over_channel, over_end, post, refusal, success_puts}
+use Rattle.board_model.specs.Answer.{address_of, channel_at, end_holds, has_channel, lacks_buffers, local, over_channel, over_end, post, puts_of, refusal, success_puts}
 use Rattle.board_model.specs.ChannelEnds.{EndCall, closes, end_refusal, end_refuses, opened_end, opens}
-use Rattle.board_model.specs.DomainCall.{close_at, connect_from, open_at}
+use Rattle.board_model.specs.DomainCall.{close_at, connect_from, open_at, send_from}
 use Rattle.board_model.specs.State as state
 use Rattle.board_model.specs.State.{ChannelEnd, DomainState, Endpoint, address_at, channel_in, closed, connected, connecting, endpoint_at, is_at, live_at, one_waits, opened, place_at, queue_at}
 use Rattle.buffer_book.specs.Book.{Book}
@@ -183,6 +183,32 @@ module _ (s : DomainState) (node port : ℕ) (to : EndName) (kind : Kind) where
       ∙ ap (λ b. connect_by (Some i) false false (Some a) b r connect_lacks) spent
       ∙ ap (λ b. connect_by (Some i) false false (Some a) false b connect_lacks) full
       ∙ ap (λ b. connect_by (Some i) false false (Some a) false false b) lacks
+
+-- a send that is refused by no word but that for buffers
+module _ (s : DomainState) (node port : ℕ) (to : EndName) (priority : ℕ) (bytes : List ℕ) where
+  abbrev send_lacks : Bool
+  send_lacks = lacks_buffers s (success_puts s node (send_from port to priority bytes))
+
+  abbrev send_by : Option ℕ → Bool → Option ℕ → Bool → Option Refusal
+  send_by place has address long =
+      cond (not (is_some place)) (Some EndpInvalid)
+      (cond has (Some OnChannel)
+      (cond (not (is_some address)) (Some PeerInvalid)
+      (cond long (Some MsgSize)
+      (cond send_lacks (Some NoBuffer) None))))
+
+  pub send-words : (i a : ℕ) → place_at s (local node port) ≡ Some i → has_channel (endpoint_at s (local node port)) ≡ false → address_of s to ≡ Some a → nat_lt item_size (length bytes) ≡ false → refusal s node (send_from port to priority bytes) ≡ cond send_lacks (Some NoBuffer) None
+  send-words i a there has address short =
+      ap (λ o. send_by o (has_channel (endpoint_at s (local node port))) (address_of s to) (nat_lt item_size (length bytes))) there
+      ∙ ap (λ b. send_by (Some i) b (address_of s to) (nat_lt item_size (length bytes))) has
+      ∙ ap (λ o. send_by (Some i) false o (nat_lt item_size (length bytes))) address
+      ∙ ap (λ b. send_by (Some i) false (Some a) b) short
+
+  -- what it puts
+  pub send-puts : (source destination : ℕ) → Some source ≡ address_at s (local node port) → Some destination ≡ address_of s to → success_puts s node (send_from port to priority bytes) ≡ puts_of (post to.domain source destination (msg priority bytes))
+  send-puts source destination from there =
+      ap₂ (λ (a b : Option ℕ). flat_map puts_of (post to.domain (unwrap_or a 0) (unwrap_or b 0) (msg priority bytes) ∷ [])) (sym from) (sym there)
+      ∙ append-nil (puts_of (post to.domain source destination (msg priority bytes)))
 
 -- one buffer is enough for one frame
 pub lacks-none : (s : DomainState) (f : ℕ × List ℕ) → 0 < state.free_to s f.0 → lacks_buffers s (f ∷ []) ≡ false

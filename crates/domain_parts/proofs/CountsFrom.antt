@@ -1,15 +1,15 @@
 -- How many frames from a peer are held, by the lists of slots and by the book.
-use Rattle.std.proofs.Common.{◌≡◌, ℕ, zero, suc, ◌+◌, ◌*◌, ◌<◌, ◌≤◌, Bool, true, false, cond, List, [], ◌∷◌, ◌++◌, length, map, take, Option, Some, None, refl, sym, ap, ◌∙◌, subst, arith, eq-eqb, length-append, ne_eqb, is_some, add-one}
+use Rattle.std.proofs.Common.{◌≡◌, ℕ, zero, suc, ◌+◌, ◌*◌, ◌<◌, ◌≤◌, Bool, true, false, cond, List, [], ◌∷◌, ◌++◌, length, map, take, Option, Some, None, refl, sym, ap, ◌∙◌, subst, arith, eq-eqb, length-append, ne_eqb, is_some, add-one, ap₂}
 use Rattle.std.specs.Prelude.{count_by, filter, is_none, nat_lt, option_and_then, option_map, position, slice_get, sum_by, ◌==◌, ◌-◌}
 use Rattle.std.specs.List.{AllByRecursion, flat_map}
 use Rattle.std.proofs.lemmas.Bool.{eqb-true, ltb-true, ltb-false}
-use Rattle.std.proofs.lemmas.List.{length-map, take_all}
+use Rattle.std.proofs.lemmas.List.{length-map, take_all, map-append}
 use Rattle.std.proofs.lemmas.List.Sums.{sum_by-append, sum_by-cons}
 use Rattle.std.proofs.lemmas.Simd.{map-map}
 use Rattle.mc_base.specs.declared.request.PacketId.{PacketId}
 use Rattle.mc_base.specs.declared.request.Slot.{Slot}
 use Rattle.board_model.specs.State as state
-use Rattle.board_model.specs.State.{Item, LentPacket, Request, frames_from, is_from, lent_from, queued_from}
+use Rattle.board_model.specs.State.{Item, LentPacket, Request, frames_from, is_from, lent_from, queued_from, HeldFrame, holds_from}
 use Rattle.board_model.proofs.ListsCounts.{count-append, count-cons}
 use Rattle.buffer_book.specs.Book as book
 use Rattle.buffer_book.specs.Book.{AreNone, Aside, Book, IsQueued, Shelf, aside_frames, count_of, frames_of, if_state, is_state, item_at, item_on, kept_at, lent_frames, queued_at, queued_frames, shelf_of, slot_of}
@@ -22,11 +22,11 @@ use Rattle.request_set.specs.Requests.{Requests, Standing}
 use Rattle.domain_parts.specs.LaneSeen.{LaneSeen}
 use Rattle.domain_parts.specs.declared.peer.Peer.{Peer}
 use Rattle.domain_parts.specs.AllMoved.{numbers_of}
-use Rattle.domain_parts.specs.InBook.{frames_at, frames_count, item_in, numbered_at, packet_in, packets_in, requests_in, slot_at}
+use Rattle.domain_parts.specs.InBook.{frames_at, frames_count, item_in, numbered_at, packet_in, packets_in, requests_in, slot_at, open_parts}
 use Rattle.domain_parts.specs.InPlaces.{AreInPlaces, has_frame, is_of, is_same, one_if, slots_of, times_in}
 use Rattle.domain_parts.specs.InRequests.{handed_slots, slots_in}
-use Rattle.domain_parts.specs.Peers.{state_in}
-use Rattle.domain_parts.specs.Records.{Records, all_waiting, lent_slots}
+use Rattle.domain_parts.specs.Peers.{state_in, held_in}
+use Rattle.domain_parts.specs.Records.{Records, all_waiting, lent_slots, part_slots}
 use Rattle.domain_parts.specs.Sound.{AreRising, AreSound, IsSized, out_at, outs_count}
 use Rattle.domain_parts.proofs.Books.{frames-some, itself}
 use Rattle.domain_parts.proofs.Fitting.{buffers, buffers-often, held-fits, length-within}
@@ -34,8 +34,11 @@ use Rattle.domain_parts.proofs.GivingLemmas.{all-stand}
 use Rattle.domain_parts.proofs.Handed.{Listing, items-handed, listing, none-listed, none-past, nothing-there}
 use Rattle.domain_parts.proofs.PeerPlaces.{All-at, peer-at}
 use Rattle.domain_parts.proofs.Placed.{Stands, frame-parts, no-frame, one-there}
-use Rattle.domain_parts.proofs.Slots.{length-all, slots}
+use Rattle.domain_parts.proofs.Slots.{length-all, slots, times-all}
 use Rattle.domain_parts.proofs.Waits.{items-are}
+use Rattle.domain_parts.specs.declared.parts.OpenPart.{OpenPart}
+use Rattle.board_model.specs.Change.{held_as}
+use Rattle.std.proofs.lemmas.List.Elements.{filter-append}
 
 -- ---- frames of the items that slots name
 
@@ -84,12 +87,41 @@ frames-both peer (i ∷ is) js = go (i.peer == peer) (frames-both peer is js)
     go true rest = omega (arith, rest, length-append i.frames (frames_from peer (is ++ js)), length-append i.frames (frames_from peer is))
     go false rest = rest
 
+-- the frames of open parts
+pub held-is : (b : Book) (peer : ℕ) (os : List OpenPart) → map (λ (h : HeldFrame). h.name) (filter (holds_from peer) (held_in (open_parts b os))) ≡ frames_from peer (map (numbered_at b) (part_slots os))
+held-is b peer [] = refl
+held-is b peer (o ∷ os) =
+    ap (map (λ (h : HeldFrame). h.name)) (filter-append (holds_from peer) (map (held_as o.slot.peer) names) (held_in (open_parts b os)))
+    ∙ map-append (λ (h : HeldFrame). h.name) (filter (holds_from peer) (map (held_as o.slot.peer) names)) (filter (holds_from peer) (held_in (open_parts b os)))
+    ∙ ap₂ (λ (xs ys : List ℕ). xs ++ ys) (own names) (held-is b peer os)
+    ∙ all (o.slot.peer == peer)
+  where
+    names : List ℕ
+    names = frames_at b o.slot
+
+    own : (ns : List ℕ) → map (λ (h : HeldFrame). h.name) (filter (holds_from peer) (map (held_as o.slot.peer) ns)) ≡ cond (o.slot.peer == peer) ns []
+    own [] = empty (o.slot.peer == peer) []
+      where
+        empty : (c : Bool) (xs : List ℕ) → xs ≡ cond c xs xs
+        empty true xs = refl
+        empty false xs = refl
+    own (n ∷ ns) = go (o.slot.peer == peer) (own ns)
+      where
+        go : (c : Bool) → map (λ (h : HeldFrame). h.name) (filter (holds_from peer) (map (held_as o.slot.peer) ns)) ≡ cond c ns [] → map (λ (h : HeldFrame). h.name) (cond c (held_as o.slot.peer n ∷ filter (holds_from peer) (map (held_as o.slot.peer) ns)) (filter (holds_from peer) (map (held_as o.slot.peer) ns))) ≡ cond c (n ∷ ns) []
+        go true rest = ap (λ (xs : List ℕ). n ∷ xs) rest
+        go false rest = rest
+
+    all : (c : Bool) → cond c names [] ++ frames_from peer (map (numbered_at b) (part_slots os)) ≡ flat_map (λ (i : Item). i.frames) (cond c (numbered_at b o.slot ∷ filter (is_from peer) (map (numbered_at b) (part_slots os))) (filter (is_from peer) (map (numbered_at b) (part_slots os))))
+    all true = refl
+    all false = refl
+
 -- as the state tells them
 module _ {L : Type 0} (v : L → LaneSeen) (b : Book) (r : Records) (q : Requests) (t : endpoint_table.Table) (ps : List (Peer L)) (peer : ℕ) where
-  pub queued-is : queued_from peer (state_in v b r q t ps) ≡ frames_count b peer (slots (all_waiting r.endpoints))
+  pub queued-is : queued_from peer (state_in v b r q t ps) ≡ frames_count b peer (slots (all_waiting r.endpoints)) + frames_count b peer (part_slots r.parts)
   queued-is =
       let is = ap (λ (is : List Item). length (frames_from peer is)) (items-are b r.endpoints) ∙ waiting-from b peer (all_waiting r.endpoints) in
-      omega (arith, is)
+      let held = ap length (held-is b peer r.parts) in
+      omega (arith, is, held)
 
   pub lent-is : lent_from peer (state_in v b r q t ps) ≡ frames_count b peer (lent_slots r) + frames_count b peer (handed_slots q.standing)
   lent-is =
@@ -329,8 +361,13 @@ module _ (ss ls : List Slot) (b : Book) (st : Stands ss ls b) (peer : ℕ) where
 
 -- of each peer of a domain
 module _ {L : Type 0} (v : L → LaneSeen) (b : Book) (r : Records) (q : Requests) (t : endpoint_table.Table) (ps : List (Peer L)) (sound : AreSound v b r q t ps) (peer : ℕ) where
-  pub queue-from : book.queued_from b peer ≡ frames_count b peer (slots (all_waiting r.endpoints)) + frames_count b peer (handed_slots q.standing)
-  queue-from = queued-are (slots_of r q) (lent_slots r) b (all-stand v b r q t ps sound) peer ∙ count-both b peer (slots (all_waiting r.endpoints)) (handed_slots q.standing)
+  pub count-three : frames_count b peer (slots_of r q) ≡ frames_count b peer (part_slots r.parts) + (frames_count b peer (slots (all_waiting r.endpoints)) + frames_count b peer (handed_slots q.standing))
+  count-three =
+      count-both b peer (part_slots r.parts) (slots (all_waiting r.endpoints) ++ handed_slots q.standing)
+      ∙ ap (λ (k : ℕ). frames_count b peer (part_slots r.parts) + k) (count-both b peer (slots (all_waiting r.endpoints)) (handed_slots q.standing))
+
+  pub queue-from : book.queued_from b peer ≡ frames_count b peer (part_slots r.parts) + (frames_count b peer (slots (all_waiting r.endpoints)) + frames_count b peer (handed_slots q.standing))
+  queue-from = queued-are (slots_of r q) (lent_slots r) b (all-stand v b r q t ps sound) peer ∙ count-three
 
   pub lent-from : book.lent_from b peer ≡ frames_count b peer (lent_slots r)
   lent-from = lent-are (slots_of r q) (lent_slots r) b (all-stand v b r q t ps sound) peer
@@ -354,11 +391,11 @@ module _ {L : Type 0} (v : L → LaneSeen) (b : Book) (r : Records) (q : Request
   pub held-few : (i : ℕ) → Some i ≡ position (λ (p : Peer L). p.number == peer) ps → frames_count b peer (handed_slots q.standing) + frames_count b peer (lent_slots r) ≤ 256
   held-few i at =
       let found = peer-at ps peer i at in
-      omega (arith, held-out i found.0 found.1 found.2, held-most i found.0 found.1 found.2, count-both b peer (slots (all_waiting r.endpoints)) (handed_slots q.standing))
+      omega (arith, held-out i found.0 found.1 found.2, held-most i found.0 found.1 found.2, count-three)
 
   -- each slot that was handed names an item in a queue
   pub handed-queued : AllByRecursion (IsQueued b) (handed_slots q.standing)
-  handed-queued = by (handed_slots q.standing) (λ s some. let all = count-append (λ (x : Slot). is_same x s) (slots (all_waiting r.endpoints)) (handed_slots q.standing) in one-there (is_some (queued_at b s)) (let once = (all-stand v b r q t ps sound).stands_once s in omega (arith, some, all, once)))
+  handed-queued = by (handed_slots q.standing) (λ s some. let all = times-all s (part_slots r.parts) (all_waiting r.endpoints) (handed_slots q.standing) in one-there (is_some (queued_at b s)) (let once = (all-stand v b r q t ps sound).stands_once s in omega (arith, some, all, once)))
     where
       by : (hs : List Slot) → ((s : Slot) → 0 < times_in s hs → IsQueued b s) → AllByRecursion (IsQueued b) hs
       by [] each = tt
@@ -437,4 +474,4 @@ pub waiting-fits : {L : Type 0} (v : L → LaneSeen) (b : Book) (r : Records) (q
 waiting-fits v b r q t ps sound =
     let few = few-peers (numbers_of ps) sound.peers.few sound.peers.rising in
     let fit = outs-fit v r q b ps sound.places sound.peers.sizes in
-    omega (arith, few, length-map ps (λ p. p.number), fit, held-fits v b r q t ps sound, length-all (all_waiting r.endpoints) (handed_slots q.standing))
+    omega (arith, few, length-map ps (λ p. p.number), fit, held-fits v b r q t ps sound, length-all (part_slots r.parts) (all_waiting r.endpoints) (handed_slots q.standing))

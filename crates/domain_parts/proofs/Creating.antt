@@ -26,7 +26,7 @@ use Rattle.domain_parts.specs.InBook.{endpoint_in}
 use Rattle.domain_parts.specs.InPlaces.{AreInPlaces, slots_of}
 use Rattle.domain_parts.specs.InRequests.{handed_slots, with_all_complete}
 use Rattle.domain_parts.specs.Peers.{state_in}
-use Rattle.domain_parts.specs.Records.{Records, all_waiting, new_record, with_record}
+use Rattle.domain_parts.specs.Records.{Records, all_waiting, new_record, with_record, part_slots}
 use Rattle.domain_parts.specs.Sound.{AreSound, out_at}
 use Rattle.domain_parts.specs.Tied.{AreTied}
 use Rattle.domain_parts.proofs.Completing.{handed-all, receives-all}
@@ -136,12 +136,12 @@ module _ {L : Type 0} (v : L → LaneSeen) (b : Book) (r : Records) (q : Request
     handed-same = handed-all who how q.standing tt
 
     slots-same : slots_of (with_record r at) made_requests ≡ slots_of r q
-    slots-same = ap (λ (ws : List Waiting). slots ws ++ handed_slots made_requests.standing) waits-same ∙ ap (λ (hs : List Slot). slots (all_waiting r.endpoints) ++ hs) handed-same
+    slots-same = ap (λ (ws : List Waiting). part_slots r.parts ++ (slots ws ++ handed_slots made_requests.standing)) waits-same ∙ ap (λ (hs : List Slot). part_slots r.parts ++ (slots (all_waiting r.endpoints) ++ hs)) handed-same
 
     pub made-sound : (r' : Records) (q' : Requests) (t' : Table) → r' ≡ with_record r at → q' ≡ made_requests → t' ≡ created t at → AreSound v b r q t ps → AreSound v b r' q' t' ps
     made-sound r' q' t' er eq et sound = moved-to (λ (x : Records) (y : Requests) (z : Table). AreSound v b x y z ps) (with_record r at) r' made_requests q' (created t at) t' er eq et (record {
       peers = sound.peers;
-      places = all-weaken (λ (p : Peer L). AreInPlaces p.number r q b (out_at v p)) (λ (p : Peer L). AreInPlaces p.number (with_record r at) made_requests b (out_at v p)) (λ p places. same-held r (with_record r at) q made_requests b p.number (out_at v p) refl waits-same handed-same places) ps sound.places;
+      places = all-weaken (λ (p : Peer L). AreInPlaces p.number r q b (out_at v p)) (λ (p : Peer L). AreInPlaces p.number (with_record r at) made_requests b (out_at v p)) (λ p places. same-held r (with_record r at) q made_requests b p.number (out_at v p) refl refl waits-same handed-same places) ps sound.places;
       shelves = sound.shelves;
       room = sound.room;
       receives = receives-all q who how tt sound.receives;

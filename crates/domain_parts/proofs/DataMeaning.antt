@@ -1,29 +1,29 @@
 -- What the steps of the calls mean that send and receive items on channels.
-use Rattle.std.proofs.Common.{◌≡◌, ℕ, Bool, true, false, cond, List, [], ◌∷◌, ◌++◌, ◌<◌, ◌≤◌, drop, take, length, map, Option, Some, None, refl, sym, ap, ◌∙◌, arith}
-use Rattle.std.specs.Prelude.{Err, Ok, Result, not, option_and_then, option_map, option_to_list, position, slice_get, ◌==◌}
+use Rattle.std.proofs.Common.{◌≡◌, ℕ, Bool, true, false, cond, List, [], ◌∷◌, ◌<◌, ◌≤◌, drop, take, length, map, Option, Some, None, refl, sym, ap, ◌∙◌, arith}
+use Rattle.std.specs.Prelude.{Err, Ok, Result, nat_lt, not, option_and_then, option_map, option_to_list, position, slice_get, ◌==◌}
 use Rattle.std.specs.List.{flat_map}
 use Rattle.std.proofs.lemmas.Bool.{ne_eqb}
 use Rattle.std.proofs.lemmas.List.{append-nil, take_all}
-use Rattle.mc_base.specs.Frame.{made}
 use Rattle.byteorder.specs.Endian.{little_number}
-use Rattle.mc_base.specs.Letter.{PlainLetter, bytes_of_bits, spelling}
+use Rattle.mc_base.specs.Letter.{PlainLetter, bytes_of_bits}
+use Rattle.mc_base.specs.Limits.{item_size}
+use Rattle.mc_base.specs.Pieces.{frames_needed}
 use Rattle.mc_base.specs.declared.channel.Bits.{Bits}
 use Rattle.mc_base.specs.declared.channel.Bits.TheVariants as bits
-use Rattle.mc_base.specs.declared.channel.Kind.TheVariants.{Scalar}
+use Rattle.mc_base.specs.declared.channel.Kind.TheVariants.{Packet, Scalar}
 use Rattle.mc_base.specs.declared.name.Local.{Local}
 use Rattle.mc_base.specs.declared.refusal.Refusal.{Refusal}
-use Rattle.mc_base.specs.declared.refusal.Refusal.TheVariants.{Empty, SclSize}
+use Rattle.mc_base.specs.declared.refusal.Refusal.TheVariants.{Empty, NoBuffer, PktSize, SclSize}
 use Rattle.mc_base.specs.declared.refusal.SclSize as size
 use Rattle.mc_base.specs.declared.request.Slot.{Slot}
-use Rattle.board_model.specs.Answer.{channel_at, is_of_other_size, over_end, post, puts_of, refusal, success_posts, success_puts, value_of}
+use Rattle.board_model.specs.Answer.{Post, channel_at, is_of_other_size, lacks_buffers, over_end, post, puts_of, refusal, success_posts, success_puts, value_of}
 use Rattle.board_model.specs.CallChanges.{at_end, at_live, success_changes, success_returned}
-use Rattle.board_model.specs.ChannelEnds.{end_refusal, receives}
+use Rattle.board_model.specs.ChannelEnds.{end_refusal, receives, sends}
 use Rattle.board_model.specs.Change.{buffers_used, changed, changed_all, oldest_gone, with_queue}
 use Rattle.board_model.specs.Choice.{oldest}
-use Rattle.board_model.specs.DomainCall.{DomainCall, scalar_at}
+use Rattle.board_model.specs.DomainCall.{DomainCall, packet_from, scalar_at}
 use Rattle.board_model.specs.Journal.{tells}
 use Rattle.board_model.specs.Labels.{success_packet}
-use Rattle.board_model.specs.Lists as lists
 use Rattle.board_model.specs.State as state
 use Rattle.board_model.specs.State.{ChannelEnd, DomainState, Item, address_at, live_at, place_at, queue_at, queue_in}
 use Rattle.message_queue.specs.Queue.{Waiting}
@@ -40,39 +40,43 @@ use Rattle.domain_parts.specs.Records.{waiting_in}
 use Rattle.domain_parts.specs.Steps.{Step, all_moves, done, done_all}
 use Rattle.board_model.proofs.StateEnds.{by_address}
 use Rattle.domain_parts.proofs.CallsAgree.{returned-agrees, there_at}
-use Rattle.domain_parts.proofs.ChannelMeaning.{changed-there, end-changes, used-is}
+use Rattle.domain_parts.proofs.ChannelMeaning.{changed-there, end-changes}
 use Rattle.domain_parts.proofs.Channels.{answered-none, answered-word, data-words, or_then, posts-are}
 use Rattle.domain_parts.proofs.Ending.{ids_in}
 use Rattle.domain_parts.proofs.Dropping.{one-dropped}
-use Rattle.domain_parts.proofs.Meaning.{one-gave, one-put}
-use Rattle.domain_parts.proofs.OneFrame.{IsSingle, post-single}
+use Rattle.domain_parts.proofs.Meaning.{one-gave}
+use Rattle.domain_parts.proofs.Posting.{posted-means}
 use Rattle.domain_parts.proofs.Removing.{gone-items}
 use Rattle.domain_parts.proofs.StateFits.{ends-of}
 use Rattle.domain_parts.proofs.Steps.{oldest_dropped-left}
 use Rattle.domain_parts.proofs.Waits.{queue-there}
 
 -- an item is sent over the channel of an endpoint
-module _ (p : Parts) (sound : Sound p) (at : Local) (i : ℕ) (there : place_at (state_of p) at ≡ Some i) (c : ChannelEnd) (has : channel_at (state_of p) at ≡ Some c) (a : ℕ) (address : Some a ≡ address_at (state_of p) at) (j : ℕ) (peer : Some j ≡ position (λ (x : Peer LaneSeen). x.number == c.peer) p.peers)
+module _ (p : Parts) (sound : Sound p) (at : Local) (i : ℕ) (there : place_at (state_of p) at ≡ Some i) (c : ChannelEnd) (has : channel_at (state_of p) at ≡ Some c) (a : ℕ) (address : Some a ≡ address_at (state_of p) at)
     (call : DomainCall) (letter : ℕ → PlainLetter) where
-  abbrev frame : List ℕ
-  frame = made a c.peer_address (spelling (letter c.number))
+  abbrev pub post_there : Post
+  post_there = post c.peer a c.peer_address (letter c.number)
 
-  pub data-puts : success_puts (state_of p) at.node call ≡ flat_map puts_of (success_posts (state_of p) at.node call) → success_posts (state_of p) at.node call ≡ over_end (state_of p) at letter → IsSingle (letter c.number) → success_puts (state_of p) at.node call ≡ (c.peer, frame) ∷ []
-  data-puts puts posts single = puts ∙ ap (flat_map puts_of) (posts ∙ posts-are (state_of p) at a c address has letter) ∙ post-single (post c.peer a c.peer_address (letter c.number)) single
+  pub data-puts : success_puts (state_of p) at.node call ≡ flat_map puts_of (success_posts (state_of p) at.node call) → success_posts (state_of p) at.node call ≡ over_end (state_of p) at letter → success_puts (state_of p) at.node call ≡ puts_of post_there
+  data-puts puts posts = puts ∙ ap (flat_map puts_of) (posts ∙ posts-are (state_of p) at a c address has letter) ∙ append-nil (puts_of post_there)
 
-  pub data-means : success_puts (state_of p) at.node call ≡ (c.peer, frame) ∷ [] → call_steps p at.node call None ≡ putting_all (success_puts (state_of p) at.node call)
-      → success_changes (state_of p) at.node call ≡ at_end (live_at (state_of p) at) (λ e d. buffers_used d.peer 1 ∷ []) → success_returned (state_of p) at.node call ≡ [] → success_ends (state_of p) call ≡ None → success_releases call ≡ None → success_packet (state_of p) call ≡ None → Means p at.node call None
-  data-means puts steps changes back ends releases lends =
-      let is = steps ∙ ap putting_all puts in
-      record {
-        state = ap (λ (cs : List Step). state_of (done_all cs p)) is ∙ used-is p sound c.peer frame j peer ∙ ap (changed_all (state_of p)) (sym (changes ∙ end-changes p sound at i there c has a address j peer (λ e d. buffers_used d.peer 1 ∷ [])));
-        moves = λ n. ap (λ (cs : List Step). all_moves cs n) is ∙ one-put c.peer frame (c.peer == n) ∙ ap (λ (fs : List (ℕ × List ℕ)). moves_at fs [] n) (sym puts) ∙ ap (λ (is : List Item). moves_at (success_puts (state_of p) at.node call) is n) (sym back);
-        ids = ap (λ (cs : List Step). ids_in (done_all cs p).requests) is ∙ sym (append-nil (ids_in p.requests)) ∙ ap (λ (o : Option ℕ). lists.without o (ids_in p.requests) ++ []) (sym ends);
-        fresh = tt;
-        lent = None;
-        packets = ap (λ (cs : List Step). (done_all cs p).records.lent) is ∙ sym (append-nil p.records.lent) ∙ ap (λ (o : Option ℕ). lists.without o p.records.lent ++ []) (sym releases);
-        lends = sym lends;
-      }
+  pub data-means : (j : ℕ) → Some j ≡ position (λ (x : Peer LaneSeen). x.number == c.peer) p.peers → success_puts (state_of p) at.node call ≡ puts_of post_there → call_steps p at.node call None ≡ putting_all (success_puts (state_of p) at.node call)
+      → success_changes (state_of p) at.node call ≡ at_end (live_at (state_of p) at) (λ e d. buffers_used d.peer (frames_needed (letter d.number)) ∷ []) → success_returned (state_of p) at.node call ≡ [] → success_ends (state_of p) call ≡ None → success_releases call ≡ None → success_packet (state_of p) call ≡ None → Means p at.node call None
+  data-means j peer puts steps changes = posted-means p sound at.node call post_there j peer puts steps (ap (changed_all (state_of p)) (changes ∙ end-changes p sound at i there c has a address j peer (λ e d. buffers_used d.peer (frames_needed (letter d.number)) ∷ [])))
+
+-- the words of the send of a packet: those of the end, and then its own
+module _ (s : DomainState) (at : Local) (i : ℕ) (c : ChannelEnd) (there : place_at s at ≡ Some i) (has : channel_at s at ≡ Some c) (bytes : List ℕ) where
+  abbrev packet_rest : Option Refusal
+  packet_rest = cond (nat_lt item_size (length bytes)) (Some PktSize) (cond (lacks_buffers s (success_puts s at.node (packet_from at.port bytes))) (Some NoBuffer) None)
+
+  pub packet-refused : (word : Refusal) → Err word ≡ may (sends Packet) c → refusal s at.node (packet_from at.port bytes) ≡ Some word
+  packet-refused word is = data-words s at.node at.port i c there has (sends Packet) packet_rest ∙ ap (λ (o : Option Refusal). or_then o packet_rest) (answered-word _ word is)
+
+  pub packet-lacks : Ok tt ≡ may (sends Packet) c → nat_lt item_size (length bytes) ≡ false → refusal s at.node (packet_from at.port bytes) ≡ cond (lacks_buffers s (success_puts s at.node (packet_from at.port bytes))) (Some NoBuffer) None
+  packet-lacks may_do short =
+      data-words s at.node at.port i c there has (sends Packet) packet_rest
+      ∙ ap (λ (o : Option Refusal). or_then o packet_rest) (answered-none _ may_do)
+      ∙ ap (λ (long : Bool). cond long (Some PktSize) (cond (lacks_buffers s (success_puts s at.node (packet_from at.port bytes))) (Some NoBuffer) None)) short
 
 -- ---- the oldest item at an endpoint
 

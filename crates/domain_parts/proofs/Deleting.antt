@@ -105,11 +105,11 @@ module _ {L : Type 0} (v : L → LaneSeen) (b : Book) (r : Records) (q : Request
   oldest-queued = stands-queued v b r q t ps sound s stands
 
   pub oldest-out : AreOutAt v s.peer (frames_at b s) ps
-  oldest-out = leaves-out v b r q t ps sound left q s refl oldest-more oldest-fewer
+  oldest-out = leaves-out v b r q t ps sound left q s refl (λ are. are) oldest-more oldest-fewer
 
   module _ (M : L → List LaneMove → L → Type 0) (ps' : List (Peer L)) (gives : GivesBack M v s.peer (frames_at b s) ps ps') where
     pub oldest-sound : AreSound v (without_frames b s None (frames_at b s)) left q t ps'
-    oldest-sound = sound-given M v b r left q q t s ps ps' gives (oldest-same r i) refl oldest-more oldest-fewer sound.receives sound
+    oldest-sound = sound-given M v b r left q q t s ps ps' gives (oldest-same r i) refl (λ are. are) oldest-more oldest-fewer sound.receives sound
 
 -- ---- and then it is gone, with the receives that wait there
 
@@ -127,7 +127,7 @@ gone-sound {L} v b r q t t' ps i at none sound tied =
     let handed = handed-all (who at) how q.standing tt in
     record {
       peers = sound.peers;
-      places = all-weaken (InPlacesAt v b r q) (InPlacesAt v b r' q') (λ p places. same-held r r' q q' b p.number (out_at v p) refl waits handed places) ps sound.places;
+      places = all-weaken (InPlacesAt v b r q) (InPlacesAt v b r' q') (λ p places. same-held r r' q q' b p.number (out_at v p) refl refl waits handed places) ps sound.places;
       shelves = sound.shelves;
       room = sound.room;
       receives = receives-all q (who at) how tt sound.receives;

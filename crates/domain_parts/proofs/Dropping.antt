@@ -30,7 +30,7 @@ use Rattle.domain_parts.specs.InBook.{frames_at, frames_in, numbered_at}
 use Rattle.domain_parts.specs.LaneMoves.{LaneMove, receiver}
 use Rattle.domain_parts.specs.Parts.{Parts, Sound, plain, state_of}
 use Rattle.domain_parts.specs.Peers.{state_in}
-use Rattle.domain_parts.specs.Records.{all_waiting, lent_slots, slots_at, waiting_in, with_oldest_taken}
+use Rattle.domain_parts.specs.Records.{all_waiting, lent_slots, slots_at, waiting_in, with_oldest_taken, part_slots}
 use Rattle.domain_parts.specs.Steps.{Step, all_moves, done, done_all, endpoint_gone, oldest_dropped, step_moves, without_frames}
 use Rattle.domain_parts.proofs.CallsAgree.{delete-agrees, returned-agrees}
 use Rattle.domain_parts.specs.InPlaces.{is_same, one_if, slots_of, times_in}
@@ -76,7 +76,7 @@ module _ (p : Parts) (sound : Sound p) (i : ℕ) (s : Slot) (first : Some s ≡ 
   one-dropped =
       let p1 = done step p in
       let gives = gives-seen s.peer (frames_at p.book s) p.peers sound.peers.rising (oldest_dropped-out p sound i s first) in
-      given-state Any (λ l. tt) plain p.book p.records p1.records p.requests p.requests p.table s p.peers p1.peers gives (oldest-more plain p.book p.records p.requests p.table p.peers i s sound first) sound.places refl refl refl
+      given-state Any (λ l. tt) plain p.book p.records p1.records p.requests p.requests p.table s p.peers p1.peers gives (oldest-more plain p.book p.records p.requests p.table p.peers i s sound first) sound.places refl refl refl refl
       ∙ ap (λ (es : List state.Endpoint). record (state_of p) { endpoints = es }) (endpoints-oldest p.book p.records.endpoints i)
 
   -- what still waits there has the frames that it had
@@ -88,7 +88,7 @@ module _ (p : Parts) (sound : Sound p) (i : ℕ) (s : Slot) (first : Some s ≡ 
       let none = none-left (slots_of p.records p.requests) (lent_slots p.records) p.book (all-stand plain p.book p.records p.requests p.table p.peers sound) s (slots_of r' p.requests) more in
       let within = count-within (λ (w : Waiting). is_same w.slot s) r'.endpoints i in
       let here = count-map (λ (t : Slot). is_same t s) (λ (w : Waiting). w.slot) (waiting_in (slice_get r'.endpoints i)) in
-      let all = times-all s (all_waiting r'.endpoints) (handed_slots p.requests.standing) in
+      let all = times-all s (part_slots r'.parts) (all_waiting r'.endpoints) (handed_slots p.requests.standing) in
       each-other s (slots_at r' i) p.book (without_frames p.book s None (frames_at p.book s)) (omega (arith, none, within, here, all)) (left-others p.records r' p.requests p.requests p.book s more lane.0.number (out_at plain lane.0) lane.1)
     where
       each-other : (s : Slot) (ss : List Slot) (b b' : Book) → times_in s ss ≡ 0 → Others b b' s → AllByRecursion (λ t. frames_at b' t ≡ frames_at b t) ss
@@ -212,7 +212,7 @@ module _ (p : Parts) (sound : Sound p) (at : Local) (i : ℕ) (there : place_at 
       ∙ ap (λ (t : Table). state_in plain p'.book r q t p'.peers) (deleted-is plain p'.book p'.records p'.requests p'.table p'.peers at i all.sound there')
       ∙ ended-state plain p'.book p'.book p'.records p'.requests q p'.table p'.peers p'.peers all.sound.peers.rising all.sound.tied r at i new.0 new.1 new.2
       (endpoints-without p'.book i p'.records.endpoints ∙ ap (λ (o : Option ℕ). without o s'.endpoints) (sym there'))
-      (requests-ended p'.book EndpInvalid at p'.requests.standing) refl refl refl refl refl
+      (requests-ended p'.book EndpInvalid at p'.requests.standing) refl refl refl refl refl refl
       ∙ ap (without_endpoint s' at) (new-address ∙ sym old-address)
       ∙ ap (λ (x : DomainState). without_endpoint x at (unwrap_or (address_at (state_of p) at) 0)) all.others
       ∙ ap left_with (ap (λ (o : Option ℕ). without o s'.endpoints) there' ∙ all.left ∙ ap (λ (o : Option ℕ). without o (state_of p).endpoints) (sym there))

@@ -24,7 +24,8 @@ use Rattle.domain_parts.specs.declared.endpoints.Endpoint.{Endpoint}
 use Rattle.domain_parts.specs.Records.{Records, all_waiting, lent_slots, with_best_taken, with_best_taken_at, with_oldest_taken, with_oldest_taken_at}
 use Rattle.request_set.specs.Requests.{Requests}
 use Rattle.domain_parts.specs.InRequests.{AreReceives}
-use Rattle.domain_parts.specs.InPlaces.{AreInPlaces, EachInPlace, IsLentAs, is_misplaced, slots_of, times_in}
+use Rattle.domain_parts.specs.InPlaces.{AreInPlaces, AreOpen, EachInPlace, IsLentAs, is_misplaced, slots_of, times_in}
+use Rattle.domain_parts.specs.Table.{PartRead}
 use Rattle.domain_parts.specs.Sound.{AreRising, ArePeers, AreSound, IsSized, buffers_count, out_at}
 use Rattle.domain_parts.specs.Tied.{AreTied, linked_among, live_record}
 use Rattle.domain_parts.proofs.Books.{without-shelves}
@@ -82,11 +83,11 @@ module _ {L : Type 0} (M : L → List LaneMove → L → Type 0) (v : L → Lane
   pub seen-given : v gives.ends ≡ record (v gives.peer.ends) { out = back_from fs (v gives.peer.ends).out }
   seen-given = gives.seen ∙ after-giving fs (v gives.peer.ends)
 
-  shows-same : (t : endpoint_table.Table) → peer_in v t given ≡ peer_in v t gives.peer
-  shows-same t = ap (λ (l : LaneSeen). record (peer_in v t gives.peer) { size = l.size_from; free = l.free; shown = l.shown }) seen-given
+  shows-same : (os : List PartRead) (t : endpoint_table.Table) → peer_in v os t given ≡ peer_in v os t gives.peer
+  shows-same os t = ap (λ (l : LaneSeen). record (peer_in v os t gives.peer) { size = l.size_from; free = l.free; shown = l.shown }) seen-given
 
-  pub given-peers : (t : endpoint_table.Table) → peers_in v t ps' ≡ peers_in v t ps
-  given-peers t = ap (peers_in v t) gives.after ∙ map-exchanged (peer_in v t) ps gives.place gives.peer given gives.there (shows-same t)
+  pub given-peers : (os : List PartRead) (t : endpoint_table.Table) → peers_in v os t ps' ≡ peers_in v os t ps
+  given-peers os t = ap (peers_in v os t) gives.after ∙ map-exchanged (peer_in v os t) ps gives.place gives.peer given gives.there (shows-same os t)
 
   pub given-length : length ps' ≡ length ps
   given-length = ap length gives.after ∙ length-slice_set ps gives.place given
@@ -95,9 +96,9 @@ module _ {L : Type 0} (M : L → List LaneMove → L → Type 0) (v : L → Lane
   given-numbers = ap numbers_of gives.after ∙ map-exchanged (λ (p : Peer L). p.number) ps gives.place gives.peer given gives.there refl
 
 -- the state names the peers in the same order
-pub numbers-in : {L : Type 0} (v : L → LaneSeen) (t : endpoint_table.Table) (ps : List (Peer L)) → map (λ (p : state.Peer). p.number) (peers_in v t ps) ≡ numbers_of ps
-numbers-in v t [] = refl
-numbers-in v t (p ∷ ps) = ap (λ (ns : List ℕ). p.number ∷ ns) (numbers-in v t ps)
+pub numbers-in : {L : Type 0} (v : L → LaneSeen) (os : List PartRead) (t : endpoint_table.Table) (ps : List (Peer L)) → map (λ (p : state.Peer). p.number) (peers_in v os t ps) ≡ numbers_of ps
+numbers-in v os t [] = refl
+numbers-in v os t (p ∷ ps) = ap (λ (ns : List ℕ). p.number ∷ ns) (numbers-in v os t ps)
 
 -- ---- an item in the book is of one of the peers
 
@@ -154,12 +155,12 @@ module _ {L : Type 0} (v : L → LaneSeen) (b : Book) (r : Records) (q : Request
           }
 
     -- of one that leaves the queues or the requests
-    module _ (r' : Records) (q' : Requests) (s : Slot) (same : r'.lent ≡ r.lent) (more : HasMore s (slots_of r' q') (slots_of r q)) (fewer : count_by (is_misplaced b) (all_waiting r'.endpoints) ≤ count_by (is_misplaced b) (all_waiting r.endpoints)) where
+    module _ (r' : Records) (q' : Requests) (s : Slot) (same : r'.lent ≡ r.lent) (opens : AreOpen b r.parts → AreOpen b r'.parts) (more : HasMore s (slots_of r' q') (slots_of r q)) (fewer : count_by (is_misplaced b) (all_waiting r'.endpoints) ≤ count_by (is_misplaced b) (all_waiting r.endpoints)) where
       leaves-queued : IsQueued b s
       leaves-queued = stands-queued s (let here = times-here s (slots_of r' q') (slots_of r q) more in omega (arith, here))
 
       pub leaves-out : AreOutAt v s.peer (frames_at b s) ps
-      leaves-out = gives-out s (queued-item (item_at b s) leaves-queued) r' q' (without_frames b s None (frames_at b s)) (frames_at b s) (left-up r r' q q' b s more same fewer)
+      leaves-out = gives-out s (queued-item (item_at b s) leaves-queued) r' q' (without_frames b s None (frames_at b s)) (frames_at b s) (left-up r r' q q' b s more same opens fewer)
 
 -- ---- the same endpoints, whatever waits there
 
@@ -202,10 +203,10 @@ All-each P Q then (x ∷ xs) all = (then x all.0, All-each P Q then xs all.1)
 
 -- the same slots wait or were handed, in any order
 pub sound-moved : {L : Type 0} (v : L → LaneSeen) (b : Book) (r r' : Records) (q q' : Requests) (t : endpoint_table.Table) (ps : List (Peer L))
-    → SameEndpoints r r' → r'.lent ≡ r.lent → HaveSame (slots_of r q) (slots_of r' q') → count_by (is_misplaced b) (all_waiting r'.endpoints) ≤ count_by (is_misplaced b) (all_waiting r.endpoints) → AreReceives q' → AreSound v b r q t ps → AreSound v b r' q' t ps
-sound-moved {L} v b r r' q q' t ps same lent slots fewer receives sound = record {
+    → SameEndpoints r r' → r'.lent ≡ r.lent → (AreOpen b r.parts → AreOpen b r'.parts) → HaveSame (slots_of r q) (slots_of r' q') → count_by (is_misplaced b) (all_waiting r'.endpoints) ≤ count_by (is_misplaced b) (all_waiting r.endpoints) → AreReceives q' → AreSound v b r q t ps → AreSound v b r' q' t ps
+sound-moved {L} v b r r' q q' t ps same lent opens slots fewer receives sound = record {
   peers = subst (λ (n : ℕ). ArePeers v n ps) (sym same.number) sound.peers;
-  places = All-each (InPlacesAt v b r q) (InPlacesAt v b r' q') (λ p places. record { each = subst (λ (ids : List PacketId). EachInPlace p.number (out_at v p) (slots_of r' q') (map slot_of ids) b []) (sym lent) (other-slots (lent_slots r) p.number (out_at v p) (slots_of r q) (slots_of r' q') b [] slots places.each); priorities = let was = places.priorities in omega (arith, was, fewer); lent = subst (AllByRecursion (IsLentAs b)) (sym lent) places.lent }) ps sound.places;
+  places = All-each (InPlacesAt v b r q) (InPlacesAt v b r' q') (λ p places. record { each = subst (λ (ids : List PacketId). EachInPlace p.number (out_at v p) (slots_of r' q') (map slot_of ids) b []) (sym lent) (other-slots (lent_slots r) p.number (out_at v p) (slots_of r q) (slots_of r' q') b [] slots places.each); priorities = let was = places.priorities in omega (arith, was, fewer); lent = subst (AllByRecursion (IsLentAs b)) (sym lent) places.lent; parts = opens places.parts }) ps sound.places;
   shelves = sound.shelves;
   room = let room = sound.room in let same_room = same.room in omega (arith, room, same_room);
   receives = receives;
@@ -286,6 +287,6 @@ sound-gave {L} M v b b' r r' q q' t s fs ps ps' gives same up shelves receives s
 
 -- one left the queues or the requests
 pub sound-given : {L : Type 0} (M : L → List LaneMove → L → Type 0) (v : L → LaneSeen) (b : Book) (r r' : Records) (q q' : Requests) (t : endpoint_table.Table) (s : Slot) (ps ps' : List (Peer L)) → GivesBack M v s.peer (frames_at b s) ps ps' → SameEndpoints r r'
-    → r'.lent ≡ r.lent → HasMore s (slots_of r' q') (slots_of r q) → count_by (is_misplaced b) (all_waiting r'.endpoints) ≤ count_by (is_misplaced b) (all_waiting r.endpoints) → AreReceives q' → AreSound v b r q t ps → AreSound v (without_frames b s None (frames_at b s)) r' q' t ps'
-sound-given M v b r r' q q' t s ps ps' gives same lent more fewer receives sound =
-    sound-gave M v b (without_frames b s None (frames_at b s)) r r' q q' t s (frames_at b s) ps ps' gives same (left-up r r' q q' b s more lent fewer) (without-shelves b s None (frames_at b s)) receives sound
+    → r'.lent ≡ r.lent → (AreOpen b r.parts → AreOpen b r'.parts) → HasMore s (slots_of r' q') (slots_of r q) → count_by (is_misplaced b) (all_waiting r'.endpoints) ≤ count_by (is_misplaced b) (all_waiting r.endpoints) → AreReceives q' → AreSound v b r q t ps → AreSound v (without_frames b s None (frames_at b s)) r' q' t ps'
+sound-given M v b r r' q q' t s ps ps' gives same lent opens more fewer receives sound =
+    sound-gave M v b (without_frames b s None (frames_at b s)) r r' q q' t s (frames_at b s) ps ps' gives same (left-up r r' q q' b s more lent opens fewer) (without-shelves b s None (frames_at b s)) receives sound

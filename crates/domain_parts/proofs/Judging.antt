@@ -8,7 +8,7 @@ use Rattle.std.proofs.lemmas.Option.{slice_get-map, slice_get_within}
 use Rattle.mc_base.specs.Limits.{reply_limit}
 use Rattle.mc_base.specs.Letter.{Piece, PlainLetter, msg, piece_in, plain_letter, saying_by, saying_of}
 use Rattle.mc_base.specs.NameMap.{Names, address_in, forgotten, has_name}
-use Rattle.mc_base.specs.Reading.{Reading, brings as brings_part, reading, says, says_so}
+use Rattle.mc_base.specs.Reading.{Reading, reading, says, says_so}
 use Rattle.mc_base.specs.declared.channel.Kind.{Kind}
 use Rattle.mc_base.specs.declared.channel.Reason.{Reason}
 use Rattle.mc_base.specs.declared.channel.Reason.TheVariants as reason
@@ -19,13 +19,12 @@ use Rattle.mc_base.specs.declared.name.Local.{Local}
 use Rattle.mc_base.specs.declared.request.RequestId.{RequestId}
 use Rattle.board_model.specs.Change.{channel_set, item_handed, item_queued, reply_owed}
 use Rattle.board_model.specs.ChannelEnds.{accepted_end}
-use Rattle.board_model.specs.Parts.{Came, part_of}
+use Rattle.board_model.specs.Parts.{Came}
 use Rattle.board_model.specs.State as state
 use Rattle.board_model.specs.State.{DomainState, Item, endpoint_of, has_address_of, peer_at, place_of_address}
 use Rattle.board_model.specs.TakenFrames as taken
 use Rattle.board_model.specs.TakenFrames.{Row, accepting, connect_rows, first_row, is_busy, letter_rows, rejecting, replies_to, row, row_from, row_of}
 use Rattle.board_model.proofs.MessageLists.{get-position, some-position}
-use Rattle.board_model.proofs.WholeFrames.{came_alone, row-alone}
 use Rattle.buffer_book.specs.Book.{Book}
 use Rattle.packet_channel.specs.End.{end_of}
 use Rattle.packet_channel.specs.declared.channel.Channel.{Channel}
@@ -40,8 +39,9 @@ use Rattle.domain_parts.specs.InRequests.{AreReceives}
 use Rattle.domain_parts.specs.Peers.{reply_in}
 use Rattle.domain_parts.specs.Records.{Records, kept, with_channel_at}
 use Rattle.domain_parts.specs.Table.{holding}
-use Rattle.domain_parts.specs.Verdicts.{Brings, Desk, Fits, IsHanded, IsItem, IsJudged, IsQueued, IsReturned, IsVerdict, Shows, accepts, desk, framed_item, letter_row, local_of, nothing, replies}
-use Rattle.domain_parts.proofs.Readings.{AreBytes, item-read}
+use Rattle.domain_parts.specs.Verdicts.{AreBytes, Brings, Desk, Fits, IsHanded, IsItem, IsJudged, IsQueued, IsReturned, IsVerdict, Shows, accepts, desk, framed_item, letter_row, local_of, nothing, replies}
+use Rattle.domain_parts.proofs.Pieces.{came_alone, row-no_piece}
+use Rattle.domain_parts.proofs.Readings.{item-read}
 use Rattle.domain_parts.proofs.Receives.{found-place, waiting-place}
 use Rattle.domain_parts.proofs.Tables.{kept-new, some-end}
 
@@ -261,12 +261,12 @@ module _ (b : Book) (d : Desk) (s : DomainState) (peer : ℕ) (shows : Shows s p
 
 -- ---- the frame that says the letter
 
-module _ (s : DomainState) (name : Option ℕ) (peer src dst : ℕ) (closed : part_of s peer ≡ None) (frame : List ℕ) (bytes : AreBytes frame) (l : PlainLetter) (is : says src dst l ≡ reading frame) where
+module _ (s : DomainState) (name : Option ℕ) (peer src dst : ℕ) (frame : List ℕ) (bytes : AreBytes frame) (l : PlainLetter) (is : says src dst l ≡ reading frame) where
   abbrev came : Came
   came = came_alone name
 
   row_so : letter_row s came peer src dst l ≡ row_from s peer name frame
-  row_so = ap (row_of s peer came) is ∙ sym (row-alone s peer name frame closed)
+  row_so = sym (row-no_piece s peer name frame (says src dst l) is tt)
 
   pub judged-verdict : (v : Verdict) (d d' : Desk) → IsJudged s came peer src dst l v d d' → IsVerdict s name peer frame v d d'
   judged-verdict (verdict.Queued place priority size) d d' j =
@@ -284,14 +284,3 @@ module _ (s : DomainState) (name : Option ℕ) (peer src dst : ℕ) (closed : pa
 -- a letter that is no part of one
 pub said-whole : (l : Letter) → piece_in l ≡ None → (src dst : ℕ) (r : Reading) → says_so src dst (saying_of l) ≡ r → says src dst (plain_letter l) ≡ r
 said-whole l none src dst r is = sym (ap (λ (o : Option Piece). says_so src dst (saying_by o (plain_letter l))) none) ∙ is
-
--- a part goes on with none
-pub stray-returned : (s : DomainState) (name : Option ℕ) (peer src dst : ℕ) → part_of s peer ≡ None → (frame : List ℕ) (q : Piece) → brings_part src dst q ≡ reading frame → (d : Desk) → IsReturned s peer (row_from s peer name frame) fate.Stray d d
-stray-returned s name peer src dst closed frame q is d = record {
-  effect = nothing;
-  applies = true;
-  row_is = row-alone s peer name frame closed ∙ ap (row_of s peer (came_alone name)) (sym is);
-  returned = refl;
-  placed = tt;
-  left = refl;
-}

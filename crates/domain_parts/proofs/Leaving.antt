@@ -10,14 +10,15 @@ use Rattle.board_model.proofs.ListsCounts.{count-cons}
 use Rattle.buffer_book.specs.Book.{Book, Item, frames_of, if_state, is_state, item_at, slot_of}
 use Rattle.message_queue.specs.Queue.{Waiting}
 use Rattle.request_set.specs.Requests.{Requests}
-use Rattle.domain_parts.specs.Records.{Records, all_waiting, lent_slots}
+use Rattle.domain_parts.specs.Records.{Records, all_waiting, lent_slots, part_slots}
 use Rattle.domain_parts.specs.Out.{Out}
-use Rattle.domain_parts.specs.InBook.{endpoints_in, frames_at, packets_in, requests_in}
+use Rattle.domain_parts.specs.InBook.{endpoints_in, frames_at, open_parts, packets_in, requests_in}
 use Rattle.domain_parts.specs.InRequests.{handed_slots}
-use Rattle.domain_parts.specs.InPlaces.{AreInPlaces, AreInPlacesBeside, EachInPlace, IsLentAs, KeepOthers, is_misplaced, is_same, one_if, slots_of, times_in, times_waiting}
+use Rattle.domain_parts.specs.InPlaces.{AreInPlaces, AreInPlacesBeside, AreOpen, EachInPlace, IsLentAs, KeepOthers, is_misplaced, is_same, one_if, slots_of, times_in, times_waiting}
 use Rattle.domain_parts.specs.Steps.{without_frames}
 use Rattle.domain_parts.proofs.Books.{Others, differ-back, same-item}
 use Rattle.domain_parts.proofs.Handed.{packets-stay, requests-stay}
+use Rattle.domain_parts.proofs.OpenParts.{open-stay, parts-stay}
 use Rattle.domain_parts.proofs.Placed.{HasMore, IsLane, Stands, in-place, lane-of, more-before, more-queued, no-one, none-left, queued-not_lent, queued-same, stands-of, times-there}
 use Rattle.domain_parts.proofs.Placing.{lane-out, lane-same, out-changes, out-others, out-stands}
 use Rattle.domain_parts.proofs.Slots.{misplaced-stay, times-all}
@@ -41,6 +42,9 @@ module _ (r r' : Records) (q q' : Requests) (b : Book) (s : Slot) (more : HasMor
   abbrev vs : List Waiting
   vs = all_waiting r'.endpoints
 
+  abbrev os : List Slot
+  os = part_slots r'.parts
+
   abbrev gs : List Slot
   gs = handed_slots q'.standing
 
@@ -63,10 +67,13 @@ module _ (r r' : Records) (q q' : Requests) (b : Book) (s : Slot) (more : HasMor
     left-lent = queued-not_lent (slots_of r q) (lent_slots r) b st s (more-queued (slots_of r q) (lent_slots r) b st s (slots_of r' q') more)
 
     pub left-waiting : times_waiting s vs ≡ 0
-    left-waiting = omega (arith, none, times-all s vs gs)
+    left-waiting = omega (arith, none, times-all s os vs gs)
 
     pub left-handed : times_in s gs ≡ 0
-    left-handed = omega (arith, none, times-all s vs gs)
+    left-handed = omega (arith, none, times-all s os vs gs)
+
+    left-open : times_in s os ≡ 0
+    left-open = omega (arith, none, times-all s os vs gs)
 
     -- what is held is as it was
     pub left-others : Others b left_book s
@@ -81,6 +88,9 @@ module _ (r r' : Records) (q q' : Requests) (b : Book) (s : Slot) (more : HasMor
     pub left-packets : r'.lent ≡ r.lent → packets_in left_book r'.lent ≡ packets_in b r'.lent
     left-packets same = packets-stay b left_book s left-others r'.lent (ap (λ (ids : List PacketId). times_in s (map slot_of ids)) same ∙ left-lent)
 
+    pub left-parts : open_parts left_book r'.parts ≡ open_parts b r'.parts
+    left-parts = parts-stay b left_book s left-others r'.parts left-open
+
     pub left-stands : Stands (slots_of r' q') (lent_slots r) left_book
     left-stands =
         out-stands (slots_of r q) (lent_slots r) (slots_of r' q') (lent_slots r) b st s None it.0 it.1 it.2
@@ -90,12 +100,15 @@ module _ (r r' : Records) (q q' : Requests) (b : Book) (s : Slot) (more : HasMor
     pub left-priorities : count_by (is_misplaced b) vs ≤ count_by (is_misplaced b) (all_waiting r.endpoints) → count_by (is_misplaced left_book) vs ≡ 0
     left-priorities fewer = let was = places.priorities in misplaced-stay b left_book s left-others vs left-waiting ∙ omega (arith, was, fewer)
 
-  module _ (same : r'.lent ≡ r.lent) (fewer : count_by (is_misplaced b) vs ≤ count_by (is_misplaced b) (all_waiting r.endpoints)) where
+  module _ (same : r'.lent ≡ r.lent) (opens : AreOpen b r.parts → AreOpen b r'.parts) (fewer : count_by (is_misplaced b) vs ≤ count_by (is_misplaced b) (all_waiting r.endpoints)) where
     abbrev is_placed : ℕ → Out → List ℕ → List PacketId → Type 0
     is_placed number o ns ids = EachInPlace number o (slots_of r' q') (map slot_of ids) left_book ns
 
     still-lent : (number : ℕ) (o : Out) → AreInPlaces number r q b o → AllByRecursion (IsLentAs left_book) r'.lent
     still-lent number o places = subst (AllByRecursion (IsLentAs left_book)) (sym same) (each-lent b left_book s (left-others number o places) r.lent (left-lent number o places) places.lent)
+
+    still-open : (number : ℕ) (o : Out) → AreInPlaces number r q b o → AreOpen left_book r'.parts
+    still-open number o places = open-stay b left_book s (left-others number o places) r'.parts (left-open number o places) (opens places.parts)
 
     -- between its place and its lane
     left-beside : (number : ℕ) (o : Out) → s.peer ≡ number → AreInPlaces number r q b o → AreInPlacesBeside (frames_at b s) number r' q' left_book o
@@ -107,6 +120,7 @@ module _ (r r' : Records) (q q' : Requests) (b : Book) (s : Slot) (more : HasMor
           each = subst (is_placed number o (frames_at b s)) (sym same) (in-place (lent_slots r) number o (slots_of r' q') left_book (frames_at b s) (left-stands number o places) (subst (λ (n : ℕ). IsLane n o left_book (frames_at b s)) own (subst (IsLane s.peer o left_book) (append-nil (frames_at b s)) out)));
           priorities = left-priorities number o places fewer;
           lent = still-lent number o places;
+          parts = still-open number o places;
         }
 
     left-others_kept : KeepOthers s.peer r q b r' q' left_book
@@ -117,6 +131,7 @@ module _ (r r' : Records) (q q' : Requests) (b : Book) (s : Slot) (more : HasMor
           each = subst (is_placed number o []) (sym same) (in-place (lent_slots r) number o (slots_of r' q') left_book [] (left-stands number o places) (lane-same number o b left_book [] s (frames_of i.0) None changes differ (lane-of (lent_slots r) number o (slots_of r q) b [] places.each)));
           priorities = left-priorities number o places fewer;
           lent = still-lent number o places;
+          parts = still-open number o places;
         }
 
     pub left-up : GivesUp r r' q q' b left_book s (frames_at b s)

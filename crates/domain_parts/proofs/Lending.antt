@@ -21,11 +21,14 @@ use Rattle.domain_parts.specs.LaneSeen.{LaneSeen}
 use Rattle.domain_parts.specs.declared.endpoints.Endpoint.{Endpoint}
 use Rattle.domain_parts.specs.declared.peer.Peer.{Peer}
 use Rattle.domain_parts.specs.DomainView.{has_packet_id, place_of_packet_id}
-use Rattle.domain_parts.specs.InBook.{channel_in, content_in, endpoint_in, endpoints_in, frames_in, item_in, numbered_at, outcome_in, packet_in, packets_in, priority_in, request_in, requests_in, source_in, whole_at}
-use Rattle.domain_parts.specs.InPlaces.{AreInPlaces, IsLentAs, is_misplaced, is_same, one_if, slots_of, times_in}
+use Rattle.domain_parts.specs.InBook.{channel_in, content_in, endpoint_in, endpoints_in, frames_in, item_in, numbered_at, open_parts, outcome_in, packet_in, packets_in, part_read, priority_in, request_in, requests_in, source_in, whole_at}
+use Rattle.domain_parts.specs.InPlaces.{AreInPlaces, AreOpen, IsLentAs, IsOpenAs, is_misplaced, is_same, one_if, slots_of, times_in}
 use Rattle.domain_parts.specs.InRequests.{AreReceives}
 use Rattle.domain_parts.specs.Out.{Out}
-use Rattle.domain_parts.specs.Peers.{state_in}
+use Rattle.domain_parts.specs.declared.parts.OpenPart.{OpenPart}
+use Rattle.domain_parts.specs.Peers.{held_in, peers_in, state_in}
+use Rattle.domain_parts.specs.Pieces.{part_with}
+use Rattle.domain_parts.specs.Table.{PartRead}
 use Rattle.domain_parts.specs.AllMoved.{numbers_of}
 use Rattle.domain_parts.specs.Records.{Records, all_waiting, lent_slots, with_last_lent}
 use Rattle.domain_parts.specs.Sound.{ArePeers, AreSound, out_at}
@@ -125,6 +128,33 @@ module _ (b : Book) (s : Slot) (i : book.Item) (is : item_at b s ≡ Some i) (qu
       ∙ ap (λ (n : ℕ). one_if (is_misplaced b w) + n) (misplaced-lent ws)
       ∙ sym (count-cons (is_misplaced b) w ws)
 
+  -- open parts are read as before
+  parts-lent : (os : List OpenPart) → open_parts b' os ≡ open_parts b os
+  parts-lent [] = refl
+  parts-lent (o ∷ os) =
+      let read = read-as o.slot in
+      ap (λ (x : List ℕ). record { peer = o.slot.peer; part = part_with o x; names = frames_in (whole_at b' o.slot) } ∷ open_parts b' os) read.2
+      ∙ ap (λ (x : List ℕ). record { peer = o.slot.peer; part = part_with o (content_in (whole_at b o.slot)); names = x } ∷ open_parts b' os) read.3
+      ∙ ap (λ (xs : List PartRead). part_read b o ∷ xs) (parts-lent os)
+
+  each-open : (os : List OpenPart) → AllByRecursion (IsOpenAs b) os → AllByRecursion (IsOpenAs b') os
+  each-open [] all = tt
+  each-open (o ∷ os) all =
+      let read = read-as o.slot in (
+        record {
+          size = ap length read.2 ∙ all.0.size;
+          source = read.0 ∙ all.0.source;
+          priority = read.4 ∙ all.0.priority;
+          channel = read.1 ∙ all.0.channel;
+          within = all.0.within;
+          most = all.0.most;
+        },
+        each-open os all.1,
+      )
+
+  open-lent : (os : List OpenPart) → AreOpen b os → AreOpen b' os
+  open-lent os are = record { each = each-open os are.each; apart = are.apart; none = are.none }
+
   -- it is lent under its id
   abbrev id : PacketId
   id = next_lent b s
@@ -143,7 +173,7 @@ module _ (b : Book) (s : Slot) (i : book.Item) (is : item_at b s ≡ Some i) (qu
 
   -- ---- it left the queues or the requests
 
-  module _ (r r' : Records) (q q' : Requests) (lends : r'.lent ≡ r.lent) (fewer : HasMore s (slots_of r' q') (slots_of r q)) where
+  module _ (r r' : Records) (q q' : Requests) (lends : r'.lent ≡ r.lent) (opens : AreOpen b r.parts → AreOpen b r'.parts) (fewer : HasMore s (slots_of r' q') (slots_of r q)) where
     abbrev r'' : Records
     r'' = with_last_lent r' id
 
@@ -160,6 +190,7 @@ module _ (b : Book) (s : Slot) (i : book.Item) (is : item_at b s ≡ Some i) (qu
             each = in-place (lent_slots r'') number o (slots_of r' q') b' [] (lending-stands (slots_of r q) (lent_slots r) b st' s i is queued (slots_of r' q') (lent_slots r'') fewer more) (lane-lent (slots_of r q) (lent_slots r) b st' s i is queued number o [] (lane-of (lent_slots r) number o (slots_of r q) b [] places.each));
             priorities = misplaced-lent (all_waiting r'.endpoints) ∙ (let was = places.priorities in omega (arith, was, few));
             lent = All-push (IsLentAs b') r'.lent id (subst (AllByRecursion (IsLentAs b')) (sym lends) all) new-lent;
+            parts = open-lent r'.parts (opens places.parts);
           }
 
       pub lent-sound : {L : Type 0} (v : L → LaneSeen) (t : endpoint_table.Table) (ps : List (Peer L)) → SameEndpoints r r' → AreReceives q' → AreSound v b r q t ps → AreSound v b' r'' q' t ps
@@ -179,7 +210,8 @@ module _ (b : Book) (s : Slot) (i : book.Item) (is : item_at b s ≡ Some i) (qu
     lent-state v t ps =
         let u = state_in v b r' q' t ps in
         let next = (b.lends + 1) % 2 ^ 64 in
-        ap (λ (es : List state.Endpoint). record u { endpoints = es; requests = requests_in b' q'.standing; lent = packets_in b' r''.lent; packets_lent = next }) (endpoints-same b b' item-lent r'.endpoints)
+        ap (λ (os : List PartRead). record (state_in v b' r'' q' t ps) { peers = peers_in v os t ps; held = held_in os }) (parts-lent r'.parts)
+        ∙ ap (λ (es : List state.Endpoint). record u { endpoints = es; requests = requests_in b' q'.standing; lent = packets_in b' r''.lent; packets_lent = next }) (endpoints-same b b' item-lent r'.endpoints)
         ∙ ap (λ (rs : List state.Request). record u { requests = rs; lent = packets_in b' r''.lent; packets_lent = next }) (requests-same b b' numbered_at-lent q'.standing)
         ∙ ap (λ (ls : List LentPacket). record u { lent = ls; packets_lent = next }) (packets-same b b' numbered_at-lent r''.lent ∙ map_push (packet_in b) r'.lent id)
 

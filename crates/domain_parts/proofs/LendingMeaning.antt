@@ -38,7 +38,7 @@ use Rattle.domain_parts.specs.DomainView.{place_of_packet_id}
 use Rattle.domain_parts.specs.InBook.{endpoints_in, numbered_at, packets_in, request_in}
 use Rattle.domain_parts.specs.Parts.{Parts, Sound, plain, state_of}
 use Rattle.domain_parts.specs.Peers.{state_in}
-use Rattle.domain_parts.specs.Records.{Records, lent_slots, waiting_in, with_last_lent, with_oldest_taken_at, all_waiting, with_oldest_taken}
+use Rattle.domain_parts.specs.Records.{Records, lent_slots, waiting_in, with_last_lent, with_oldest_taken_at, all_waiting, with_oldest_taken, part_slots}
 use Rattle.domain_parts.specs.Steps.{Step, all_moves, done, done_all, next_lent, oldest_lent, packet_begun, with_last, request_begun, packet_ended, step_moves, without_at}
 use Rattle.domain_parts.proofs.Asking.{asked-state}
 use Rattle.domain_parts.proofs.Beginning.{last-ids, last-more}
@@ -111,7 +111,7 @@ module _ (p : Parts) (sound : Sound p) (i : ℕ) (s : Slot) (first : Some s ≡ 
   pub oldest_lent-keeps : Sound now
   oldest_lent-keeps =
       subst Sound (sym now-is)
-      (lent-sound p.book s it.0 it.1 it.2 (slots_of p.records p.requests) (lent_slots p.records) st p.records r' p.requests p.requests refl more (oldest-fewer plain p.book p.records p.requests p.table p.peers i s sound first) plain p.table p.peers (oldest-same p.records i) sound.receives sound)
+      (lent-sound p.book s it.0 it.1 it.2 (slots_of p.records p.requests) (lent_slots p.records) st p.records r' p.requests p.requests refl (λ are. are) more (oldest-fewer plain p.book p.records p.requests p.table p.peers i s sound first) plain p.table p.peers (oldest-same p.records i) sound.receives sound)
 
   module _ (at : Local) (there : place_at (state_of p) at ≡ Some i) where
     abbrev the : (e : state.Endpoint) × (live_at (state_of p) at ≡ Some e)
@@ -136,7 +136,7 @@ module _ (p : Parts) (sound : Sound p) (i : ℕ) (s : Slot) (first : Some s ≡ 
     lend-state : state_of now ≡ changed_all (state_of p) (success_changes (state_of p) at.node (lend_at at.port))
     lend-state =
         ap state_of now-is
-        ∙ lent-state p.book s it.0 it.1 it.2 (slots_of p.records p.requests) (lent_slots p.records) st p.records r' p.requests p.requests refl more plain p.table p.peers
+        ∙ lent-state p.book s it.0 it.1 it.2 (slots_of p.records p.requests) (lent_slots p.records) st p.records r' p.requests p.requests refl (λ are. are) more plain p.table p.peers
         ∙ ap (λ (u : DomainState). changed u (packet_lent (numbered_at p.book s))) less-state
         ∙ sym (ap (λ (o : Option Item). changed_all (state_of p) (oldest_gone the.0.address ∷ lending o)) front-is)
         ∙ sym (ap (λ (o : Option state.Endpoint). changed_all (state_of p) (at_live o (λ e. oldest_gone e.address ∷ lending (oldest e.queue)))) the.1)
@@ -200,8 +200,8 @@ module _ (p : Parts) (sound : Sound p) (i : ℕ) (s : Slot) (first : Some s ≡ 
   pub requested-sound : (rid : RequestId) (at : Local) → AreReceives (with_last p.requests rid (ask.Packet at) (Some (complete.Packet s))) → Sound (record p { records = r'; requests = with_last p.requests rid (ask.Packet at) (Some (complete.Packet s)) })
   requested-sound rid at receives =
       let q' = with_last p.requests rid (ask.Packet at) (Some (complete.Packet s)) in
-      sound-moved plain p.book p.records r' p.requests q' p.table p.peers (oldest-same p.records i) refl
-      (λ test. let less = more test in let has = handed-has s (all_waiting r'.endpoints) (handed_slots p.requests.standing) (handed_slots q'.standing) (last-more p.requests rid (ask.Packet at) s (complete.Packet s) refl) test in omega (arith, less, has))
+      sound-moved plain p.book p.records r' p.requests q' p.table p.peers (oldest-same p.records i) refl (λ are. are)
+      (λ test. let less = more test in let has = handed-has s (part_slots p.records.parts) (all_waiting r'.endpoints) (handed_slots p.requests.standing) (handed_slots q'.standing) (last-more p.requests rid (ask.Packet at) s (complete.Packet s) refl) test in omega (arith, less, has))
       (oldest-fewer plain p.book p.records p.requests p.table p.peers i s sound first) receives sound
 
 -- ---- no packet is queued
@@ -279,13 +279,13 @@ module _ (p : Parts) (sound : Sound p) (place : Option ℕ) (s : Slot) (is : IsQ
   pub packet_ended-keeps : AreReceives left → Sound tested
   packet_ended-keeps receives =
       subst Sound (sym tested-is)
-      (lent-sound p.book s held.0 held.1 held.2 (slots_of p.records p.requests) (lent_slots p.records) stood p.records p.records p.requests left refl fewer (omega arith) plain p.table p.peers (same-endpoints p.records) receives sound)
+      (lent-sound p.book s held.0 held.1 held.2 (slots_of p.records p.requests) (lent_slots p.records) stood p.records p.records p.requests left refl (λ are. are) fewer (omega arith) plain p.table p.peers (same-endpoints p.records) receives sound)
 
   module _ (at : Local) (serial : ℕ) (there : request_at_place (state_of p) place ≡ Some (record { serial = serial; asked = state.packet_at at; outcome = Some (state.has_item (numbered_at p.book s)) })) (ends : ending p.book place (how_held p.requests place) ≡ packet_ended place tested_id) where
     tested-state : state_of tested ≡ changed_all (state_of p) (success_changes (state_of p) 0 (test_of place))
     tested-state =
         ap state_of tested-is
-        ∙ lent-state p.book s held.0 held.1 held.2 (slots_of p.records p.requests) (lent_slots p.records) stood p.records p.records p.requests left refl fewer plain p.table p.peers
+        ∙ lent-state p.book s held.0 held.1 held.2 (slots_of p.records p.requests) (lent_slots p.records) stood p.records p.records p.requests left refl (λ are. are) fewer plain p.table p.peers
         ∙ ap (λ (rs : List state.Request). changed (record (state_of p) { requests = rs }) (packet_lent (numbered_at p.book s))) (map-without (request_in p.book) place p.requests.standing)
         ∙ sym (ap (λ (o : Option state.Request). changed_all (changed (state_of p) (request_gone place)) (lent_by_test o)) there)
 

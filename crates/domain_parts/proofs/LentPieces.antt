@@ -18,6 +18,7 @@ use Rattle.domain_parts.proofs.Books.{often-own, often-other, frames-some, whole
 use Rattle.domain_parts.proofs.GivingLemmas.{all-stand}
 use Rattle.domain_parts.proofs.Placed.{Stands, frame-kept, frame-true, state-same}
 use Rattle.domain_parts.proofs.Releasing.{none-placed, place-lent}
+use Rattle.mc_base.specs.Limits.{item_size}
 
 -- ---- the pieces of frames that are all held
 
@@ -118,8 +119,8 @@ module _ (p : Parts) (sound : Sound p) (id : PacketId) where
         ∙ slice_get-map content (pieces i) n
         ∙ ap (option_map content) (pieces-at b id.peer (frames_of i) n kept)
 
-    pub short-is : length (joined_content (map content (pieces i))) ≤ 488
-    short-is = subst (λ o. length (joined_content (contents_in o)) ≤ 488) whole (stand.short (slot_of id))
+    pub short-is : length (joined_content (map content (pieces i))) ≤ item_size
+    short-is = subst (λ o. length (joined_content (contents_in o)) ≤ item_size) whole (stand.short (slot_of id))
 
   -- where it lends none
   pub none-there : lent_as b id ≡ None → place_of_packet_id p.records.lent id ≡ None

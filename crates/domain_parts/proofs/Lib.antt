@@ -21,6 +21,9 @@ pub mod Queuing
 pub mod Tables
 pub mod Receives
 pub mod Handed
+pub mod OpenParts
+pub mod PartLists
+pub mod Joining
 pub mod ToldTurns
 pub mod PaidTables
 pub mod PeersAt
@@ -53,8 +56,11 @@ pub mod Dropping
 pub mod CallsAgree
 pub mod StateFits
 pub mod Readings
+pub mod PieceReadings
+pub mod Pieces
 pub mod Judging
 pub mod Acting
+pub mod Items
 pub mod TurnSteps
 pub mod TurnMeaning
 pub mod ChannelMeaning
@@ -69,3 +75,7 @@ pub mod WaitPlaces
 pub mod WaitSteps
 pub mod WaitEnds
 pub mod OneFrame
+pub mod Posting
+pub mod Cutting
+pub mod PutParts
+pub mod PutItems

@@ -5,12 +5,11 @@ use Rattle.std.specs.List.{flat_map}
 use Rattle.std.proofs.lemmas.List.{append-nil}
 use Rattle.mc_base.specs.FullName.{end_name}
 use Rattle.mc_base.specs.Letter.{msg}
-use Rattle.mc_base.specs.Pieces.{frames_needed}
 use Rattle.mc_base.specs.declared.name.EndName.{EndName}
 use Rattle.mc_base.specs.declared.name.Local.{Local}
 use Rattle.mc_base.specs.declared.request.RequestId.{RequestId}
 use Rattle.mc_base.specs.declared.request.Slot.{Slot}
-use Rattle.board_model.specs.Answer.{address_of, success_puts}
+use Rattle.board_model.specs.Answer.{address_of, post, puts_of, success_puts}
 use Rattle.board_model.specs.Choice.{best}
 use Rattle.board_model.specs.DomainCall.{available_at, cancel_of, create_at, lookup_of, raw_to, receive_at, request_at, send_from, test_of}
 use Rattle.domain_parts.specs.PlacedCalls.{best_queued, with_request}
@@ -33,7 +32,7 @@ use Rattle.domain_parts.specs.declared.peer.Peer.{Peer}
 use Rattle.domain_parts.specs.declared.requests.Waiters.TheVariants as waiters
 use Rattle.domain_parts.specs.AllMoved.{giving, moves_at}
 use Rattle.domain_parts.specs.Calls.{IsFresh}
-use Rattle.domain_parts.specs.CallSteps.{Means, best_slot, call_steps, ending, if_some, putting_all, receiving, how_held}
+use Rattle.domain_parts.specs.CallSteps.{Means, best_slot, call_steps, ending, if_some, receiving, how_held}
 use Rattle.domain_parts.specs.DomainView.{place_of_id}
 use Rattle.domain_parts.specs.GivingBack.{AreOutAt}
 use Rattle.domain_parts.specs.InBook.{endpoints_in, frames_at, item_in, numbered_at, outcome_in, request_in}
@@ -46,13 +45,14 @@ use Rattle.domain_parts.specs.Records.{Records, waiting_in, with_best_taken_at, 
 use Rattle.domain_parts.specs.Steps.{Step, all_moves, at_peer, done, done_all, message_ended, request_ended, step_moves, with_last, without_at}
 use Rattle.domain_parts.specs.VisitMoves.{putting}
 use Rattle.domain_parts.proofs.Asking.{asked-state}
-use Rattle.domain_parts.proofs.CallsAgree.{create-agrees, raw-agrees, receive-agrees, request-agrees, returned-agrees, send-agrees}
+use Rattle.domain_parts.proofs.CallsAgree.{create-agrees, raw-agrees, receive-agrees, request-agrees, returned-agrees}
 use Rattle.domain_parts.proofs.StateFits.{ends-of}
 use Rattle.board_model.proofs.MessageLists.{get-position}
 use Rattle.domain_parts.proofs.Beginning.{last-ids}
 use Rattle.domain_parts.proofs.Completing.{ids-all}
 use Rattle.domain_parts.proofs.Ending.{ids_in}
 use Rattle.domain_parts.proofs.Placed.{HasMore}
+use Rattle.domain_parts.proofs.Posting.{posted-means}
 use Rattle.domain_parts.proofs.Queuing.{ended-more}
 use Rattle.domain_parts.proofs.Receives.{gone-at, map-without, place-of_id}
 use Rattle.domain_parts.proofs.Receiving.{begun-state, best-is, best-item, given-state}
@@ -76,16 +76,9 @@ one-put d f false = refl
 
 -- ---- a message is sent
 
-pub send-means : (p : Parts) → Sound p → (node port : ℕ) (to : EndName) (priority : ℕ) (bytes frame : List ℕ) (i : ℕ) → Some i ≡ position (λ (x : Peer LaneSeen). x.number == to.domain) p.peers → frames_needed (msg priority bytes) ≡ 1 → success_puts (state_of p) node (send_from port to priority bytes) ≡ (to.domain, frame) ∷ [] → Means p node (send_from port to priority bytes) None
-send-means p sound node port to priority bytes frame i there one puts = record {
-  state = ap (λ (ps : List (ℕ × List ℕ)). state_of (done_all (putting_all ps) p)) puts ∙ (frame_put-is p to.domain frame sound i there ∙ send-agrees (state_of p) node port to priority bytes one);
-  moves = λ n. ap (λ (ps : List (ℕ × List ℕ)). all_moves (putting_all ps) n) puts ∙ one-put to.domain frame (to.domain == n) ∙ ap (λ (ps : List (ℕ × List ℕ)). moves_at ps [] n) (sym puts);
-  ids = ap (λ (ps : List (ℕ × List ℕ)). ids_in (done_all (putting_all ps) p).requests) puts ∙ sym (append-nil (ids_in p.requests));
-  fresh = tt;
-  lent = None;
-  packets = ap (λ (ps : List (ℕ × List ℕ)). (done_all (putting_all ps) p).records.lent) puts ∙ sym (append-nil p.records.lent);
-  lends = refl;
-}
+pub send-means : (p : Parts) → Sound p → (node port : ℕ) (to : EndName) (priority : ℕ) (bytes : List ℕ) (source destination i : ℕ) → Some i ≡ position (λ (x : Peer LaneSeen). x.number == to.domain) p.peers
+    → success_puts (state_of p) node (send_from port to priority bytes) ≡ puts_of (post to.domain source destination (msg priority bytes)) → Means p node (send_from port to priority bytes) None
+send-means p sound node port to priority bytes source destination i there puts = posted-means p sound node (send_from port to priority bytes) (post to.domain source destination (msg priority bytes)) i there puts refl refl refl refl refl refl
 
 -- ---- a frame is put as it is
 
@@ -294,7 +287,7 @@ module _ (p : Parts) (place : Option ℕ) where
         let step : message_ended place s (frames_at p.book s) ≡ ending p.book place (how_held p.requests place) = sym held in
         record {
           state = ap (λ (c : Step). state_of (done c p)) (sym step)
-              ∙ given-state Any (λ l. tt) plain p.book p.records p.records p.requests (without_at p.requests place) p.table s p.peers _ (gives-seen s.peer (frames_at p.book s) p.peers sound.peers.rising out) (ended-more p.records p.requests (without_at p.requests place) p.book s more) sound.places refl refl refl
+              ∙ given-state Any (λ l. tt) plain p.book p.records p.records p.requests (without_at p.requests place) p.table s p.peers _ (gives-seen s.peer (frames_at p.book s) p.peers sound.peers.rising out) (ended-more p.records p.requests (without_at p.requests place) p.book s more) sound.places refl refl refl refl
               ∙ ap (λ (rs : List state.Request). record (state_of p) { requests = rs }) (map-without (request_in p.book) place p.requests.standing)
               ∙ ap (λ (cs : List Change). changed_all (changed (state_of p) (request_gone place)) cs) (sym lends);
           moves = λ n. ap (λ (c : Step). step_moves c n) (sym step) ∙ one-gave p.book s n ∙ ap (λ (is : List Item). moves_at [] is n) (sym items);

@@ -139,7 +139,7 @@ module _ (sizes : List (ℕ × ℕ)) where
         once = λ n. let none = ap (λ (o : Option Kept). one_if (is_some o)) (kept-none (record { peer = number; buffer = n })) in omega (arith, none);
         apart = λ n. omega arith;
       } in
-      record { each = each; priorities = refl; lent = tt }
+      record { each = each; priorities = refl; lent = tt; parts = record { each = tt; apart = λ n. omega arith; none = refl } }
 
 -- ---- nothing is owed
 
@@ -328,10 +328,10 @@ module _ {S R : Type 0} (size_to : S → ℕ) (free : S → List ℕ) (size_from
     none-owed : (n : ℕ) → map announcement_in (owed_by (owing_to table n)) ≡ []
     none-owed n = ap (map announcement_in) (owed-none linked n)
 
-    peer-new : (l : Link S R) → IsOpen l → peer_in view table (linked_peer l) ≡ new_peer (neighbour_of l)
+    peer-new : (l : Link S R) → IsOpen l → peer_in view [] table (linked_peer l) ≡ new_peer (neighbour_of l)
     peer-new l o = peer-as l.peer _ _ _ _ _ _ _ o.size_from_is o.all_free o.none_shown (none-owed l.peer)
 
-    own-new : peer_in view table own ≡ new_peer (neighbour number pool)
+    own-new : peer_in view [] table own ≡ new_peer (neighbour number pool)
     own-new = peer-as number _ _ _ _ _ _ _ refl (length-range_with_len 0 pool) refl (none-owed number)
 
     neighbours-placed : (xs : List (Link S R)) → neighbours_opened number pool xs ≡ placed number neighbour_of (neighbour number pool) xs
@@ -341,10 +341,10 @@ module _ {S R : Type 0} (size_to : S → ℕ) (free : S → List ℕ) (size_from
         elim (nat_lt number l.peer) as (λ b. cond b (neighbour number pool ∷ map neighbour_of (l ∷ xs)) (neighbour_of l ∷ neighbours_opened number pool xs) ≡ cond b (neighbour number pool ∷ map neighbour_of (l ∷ xs)) (neighbour_of l ∷ placed number neighbour_of (neighbour number pool) xs))
         [ true ↦ refl | false ↦ ap (λ (ns : List Neighbour). neighbour_of l ∷ ns) rest ]
 
-    peers-new : map (peer_in view table) peers ≡ map new_peer (neighbours_opened number pool ls)
+    peers-new : map (peer_in view [] table) peers ≡ map new_peer (neighbours_opened number pool ls)
     peers-new =
-        map-placed number (peer_in view table) linked_peer own ls
-        ∙ placed-same number (λ (l : Link S R). peer_in view table (linked_peer l)) (λ (l : Link S R). new_peer (neighbour_of l)) _ _ ls (all-weaken IsOpen (λ (l : Link S R). peer_in view table (linked_peer l) ≡ new_peer (neighbour_of l)) peer-new ls each) own-new
+        map-placed number (peer_in view [] table) linked_peer own ls
+        ∙ placed-same number (λ (l : Link S R). peer_in view [] table (linked_peer l)) (λ (l : Link S R). new_peer (neighbour_of l)) _ _ ls (all-weaken IsOpen (λ (l : Link S R). peer_in view [] table (linked_peer l) ≡ new_peer (neighbour_of l)) peer-new ls each) own-new
         ∙ sym (ap (map new_peer) (neighbours-placed ls) ∙ map-placed number new_peer neighbour_of (neighbour number pool) ls)
 
     state-opening : state_in view (opening_book sizes) records no_requests table peers ≡ opening number nodes (neighbours_opened number pool ls)

@@ -26,6 +26,7 @@ beside-out number r q b o o' ns ns' size apart moved e =
       });
       priorities = e.priorities;
       lent = e.lent;
+      parts = e.parts;
     }
 
 -- a buffer out of all places is out

@@ -18,7 +18,7 @@ use Rattle.domain_parts.specs.CallSteps.{Rests}
 use Rattle.domain_parts.specs.Doing.{Doing, Puts, owed_at}
 use Rattle.domain_parts.specs.LaneSeen.{LaneSeen, after_moves}
 use Rattle.domain_parts.specs.Owed.{owed_by, put_lines, room_for}
-use Rattle.domain_parts.specs.Parts.{Holding, Parts, Sound, nobody, peer_at, peer_seen, peers_seen, plain, state_of}
+use Rattle.domain_parts.specs.Parts.{Holding, Parts, Sound, nobody, peer_at, peer_seen, peers_seen, plain, state_of, parts_read}
 use Rattle.domain_parts.specs.Peers.{announcement_in, peer_in, reply_in}
 use Rattle.domain_parts.proofs.PeersAt.{find-place}
 use Rattle.domain_parts.proofs.Turning.{did-numbers, doing-none, doing-then, same-number}
@@ -112,8 +112,8 @@ lines-push false peer (g ∷ fs) f =
 
 -- ---- a frame that is owed may be put
 
-pub may-put : (p : Parts) (sound : Sound p) (i : ℕ) (x : Peer LaneSeen) → slice_get p.peers i ≡ Some x → (frame : List ℕ) (rest : List (List ℕ)) → state.owed_to p.table.domain (peer_in plain p.table x) ≡ frame ∷ rest → MayDo (state_of p) (puts_owed x.number frame)
-may-put p sound i x there frame rest owed = (peer_in plain p.table x, rest, find-place plain p.table i p.peers x sound.peers.rising there, owed)
+pub may-put : (p : Parts) (sound : Sound p) (i : ℕ) (x : Peer LaneSeen) → slice_get p.peers i ≡ Some x → (frame : List ℕ) (rest : List (List ℕ)) → state.owed_to p.table.domain (peer_in plain (parts_read p) p.table x) ≡ frame ∷ rest → MayDo (state_of p) (puts_owed x.number frame)
+may-put p sound i x there frame rest owed = (peer_in plain (parts_read p) p.table x, rest, find-place plain (parts_read p) p.table i p.peers x sound.peers.rising there, owed)
 
 -- the peer at a place that was set
 pub set-peer : {L : Type 0} (v : L → LaneSeen) (ps : List (Peer L)) (i : ℕ) (x y : Peer L) → slice_get ps i ≡ Some x → slice_index_or (peers_seen v (slice_set ps i y)) i nobody ≡ peer_seen v y

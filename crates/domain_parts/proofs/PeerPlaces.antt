@@ -17,6 +17,8 @@ use Rattle.request_set.specs.Requests.{Requests}
 use Rattle.domain_parts.specs.LaneSeen.{LaneSeen}
 use Rattle.domain_parts.specs.declared.peer.Peer.{Peer}
 use Rattle.domain_parts.specs.AllMoved.{numbers_of}
+use Rattle.domain_parts.specs.InBook.{open_parts}
+use Rattle.domain_parts.specs.Table.{PartRead}
 use Rattle.domain_parts.specs.Peers.{peer_in, peers_in, state_in}
 use Rattle.domain_parts.specs.Records.{Records}
 use Rattle.domain_parts.proofs.Tables.{position-map}
@@ -82,22 +84,25 @@ module _ {L : Type 0} where
   pub number-place : (ps : List (Peer L)) (n : ℕ) → position (λ (p : Peer L). p.number == n) ps ≡ position (λ m. m == n) (numbers_of ps)
   number-place ps n = position-map (λ (p : Peer L). p.number) (λ m. m == n) ps
 
-  pub numbers-in : (v : L → LaneSeen) (t : endpoint_table.Table) (ps : List (Peer L)) → map (λ (p : state.Peer). p.number) (peers_in v t ps) ≡ numbers_of ps
-  numbers-in v t [] = refl
-  numbers-in v t (p ∷ ps) = ap (λ (ns : List ℕ). p.number ∷ ns) (numbers-in v t ps)
+  pub numbers-in : (v : L → LaneSeen) (os : List PartRead) (t : endpoint_table.Table) (ps : List (Peer L)) → map (λ (p : state.Peer). p.number) (peers_in v os t ps) ≡ numbers_of ps
+  numbers-in v os t [] = refl
+  numbers-in v os t (p ∷ ps) = ap (λ (ns : List ℕ). p.number ∷ ns) (numbers-in v os t ps)
 
   module _ (v : L → LaneSeen) (b : Book) (r : Records) (q : Requests) (t : endpoint_table.Table) (ps : List (Peer L)) where
+    abbrev os : List PartRead
+    os = open_parts b r.parts
+
     abbrev s : DomainState
     s = state_in v b r q t ps
 
     pub place-in : (n : ℕ) → position (λ (p : Peer L). p.number == n) ps ≡ place_of_peer s n
-    place-in n = position-map (peer_in v t) (is_numbered n) ps
+    place-in n = position-map (peer_in v os t) (is_numbered n) ps
 
-    pub peer-in : (n i : ℕ) (p : Peer L) → Some i ≡ position (λ (p : Peer L). p.number == n) ps → slice_get ps i ≡ Some p → peer_of s n ≡ Some (peer_in v t p)
+    pub peer-in : (n i : ℕ) (p : Peer L) → Some i ≡ position (λ (p : Peer L). p.number == n) ps → slice_get ps i ≡ Some p → peer_of s n ≡ Some (peer_in v os t p)
     peer-in n i p at there =
         ap (option_and_then (λ (k : ℕ). slice_get s.peers k)) (sym (place-in n) ∙ sym at)
-        ∙ slice_get-map (peer_in v t) ps i
-        ∙ ap (option_map (peer_in v t)) there
+        ∙ slice_get-map (peer_in v os t) ps i
+        ∙ ap (option_map (peer_in v os t)) there
 
     pub no-peer-in : (n : ℕ) → None ≡ position (λ (p : Peer L). p.number == n) ps → peer_of s n ≡ None
     no-peer-in n at = ap (option_and_then (λ (k : ℕ). slice_get s.peers k)) (sym (place-in n) ∙ sym at)

@@ -12,6 +12,7 @@ use Rattle.endpoint_table.specs.Table.{Owing, Table, owing_to, tells_gone, owes_
 use Rattle.domain_parts.specs.LaneSeen.{LaneSeen}
 use Rattle.domain_parts.specs.declared.peer.Peer.{Peer}
 use Rattle.domain_parts.specs.Owed.{owed_by}
+use Rattle.domain_parts.specs.Table.{PartRead}
 use Rattle.domain_parts.specs.Peers.{peer_in, peers_in, announcement_in}
 use Rattle.domain_parts.specs.AllMoved.{numbers_of}
 use Rattle.domain_parts.specs.Sound.{AreRising, outs_count, buffers_count}
@@ -104,40 +105,40 @@ changed-twice n f g number (x ∷ xs) = go (x.number == n) refl (changed-twice n
         ∙ ap (λ (ys : List state.Peer). x ∷ ys) rest
         ∙ sym (ap (λ (b : Bool). cond b (f (g x) ∷ xs) (x ∷ changed_first (is_numbered n) (λ y. f (g y)) xs)) e)
 
-module _ {L : Type 0} (v : L → LaneSeen) (t : Table) where
+module _ {L : Type 0} (v : L → LaneSeen) (os : List PartRead) (t : Table) where
   -- the first of the number is the one at the place
-  pub find-place : (i : ℕ) (ps : List (Peer L)) (p : Peer L) → AreRising (numbers_of ps) → slice_get ps i ≡ Some p → find (is_numbered p.number) (peers_in v t ps) ≡ Some (peer_in v t p)
+  pub find-place : (i : ℕ) (ps : List (Peer L)) (p : Peer L) → AreRising (numbers_of ps) → slice_get ps i ≡ Some p → find (is_numbered p.number) (peers_in v os t ps) ≡ Some (peer_in v os t p)
   find-place i [] p rising at = absurd cc
   find-place zero (x ∷ xs) p rising at =
       let same : x ≡ p = cc in
-      ap (λ (b : Bool). cond b (Some (peer_in v t x)) (find (is_numbered p.number) (peers_in v t xs))) (eq-eqb x.number p.number (ap (λ (y : Peer L). y.number) same))
-      ∙ ap (λ (y : Peer L). Some (peer_in v t y)) same
+      ap (λ (b : Bool). cond b (Some (peer_in v os t x)) (find (is_numbered p.number) (peers_in v os t xs))) (eq-eqb x.number p.number (ap (λ (y : Peer L). y.number) same))
+      ∙ ap (λ (y : Peer L). Some (peer_in v os t y)) same
   find-place (suc i) (x ∷ xs) p rising at =
-      ap (λ (b : Bool). cond b (Some (peer_in v t x)) (find (is_numbered p.number) (peers_in v t xs))) (ne_eqb x.number p.number (first-differs x p xs i rising.0 at))
+      ap (λ (b : Bool). cond b (Some (peer_in v os t x)) (find (is_numbered p.number) (peers_in v os t xs))) (ne_eqb x.number p.number (first-differs x p xs i rising.0 at))
       ∙ find-place i xs p rising.1 at
 
-module _ {L : Type 0} (v : L → LaneSeen) (t t' : Table) where
-  same-above : (n : ℕ) (ps : List (Peer L)) → AllByRecursion (λ m. n < m) (numbers_of ps) → ((z : Peer L) → (z.number ≡ n → ⊥) → peer_in v t z ≡ peer_in v t' z) → peers_in v t ps ≡ peers_in v t' ps
+module _ {L : Type 0} (v : L → LaneSeen) (os os' : List PartRead) (t t' : Table) where
+  same-above : (n : ℕ) (ps : List (Peer L)) → AllByRecursion (λ m. n < m) (numbers_of ps) → ((z : Peer L) → (z.number ≡ n → ⊥) → peer_in v os t z ≡ peer_in v os' t' z) → peers_in v os t ps ≡ peers_in v os' t' ps
   same-above n [] above same = refl
   same-above n (x ∷ xs) above same =
-      ap (λ (y : state.Peer). y ∷ peers_in v t xs) (same x (not-above n x.number above.0))
-      ∙ ap (λ (ys : List state.Peer). peer_in v t' x ∷ ys) (same-above n xs above.1 same)
+      ap (λ (y : state.Peer). y ∷ peers_in v os t xs) (same x (not-above n x.number above.0))
+      ∙ ap (λ (ys : List state.Peer). peer_in v os' t' x ∷ ys) (same-above n xs above.1 same)
 
   -- where the peer at the place changes, and all others are seen as before
-  pub changed-place : (f : state.Peer → state.Peer) (i : ℕ) (ps : List (Peer L)) (p p' : Peer L) → AreRising (numbers_of ps) → slice_get ps i ≡ Some p → f (peer_in v t p) ≡ peer_in v t' p' → ((z : Peer L) → (z.number ≡ p.number → ⊥) → peer_in v t z ≡ peer_in v t' z)
-      → changed_first (is_numbered p.number) f (peers_in v t ps) ≡ peers_in v t' (slice_set ps i p')
+  pub changed-place : (f : state.Peer → state.Peer) (i : ℕ) (ps : List (Peer L)) (p p' : Peer L) → AreRising (numbers_of ps) → slice_get ps i ≡ Some p → f (peer_in v os t p) ≡ peer_in v os' t' p' → ((z : Peer L) → (z.number ≡ p.number → ⊥) → peer_in v os t z ≡ peer_in v os' t' z)
+      → changed_first (is_numbered p.number) f (peers_in v os t ps) ≡ peers_in v os' t' (slice_set ps i p')
   changed-place f i [] p p' rising at here others = absurd cc
   changed-place f zero (x ∷ xs) p p' rising at here others =
       let same : x ≡ p = cc in
-      ap (λ (b : Bool). cond b (f (peer_in v t x) ∷ peers_in v t xs) (peer_in v t x ∷ changed_first (is_numbered p.number) f (peers_in v t xs))) (eq-eqb x.number p.number (ap (λ (y : Peer L). y.number) same))
-      ∙ ap (λ (y : Peer L). f (peer_in v t y) ∷ peers_in v t xs) same
-      ∙ ap (λ (y : state.Peer). y ∷ peers_in v t xs) here
-      ∙ ap (λ (ys : List state.Peer). peer_in v t' p' ∷ ys) (same-above p.number xs (subst (λ (y : Peer L). AllByRecursion (λ m. y.number < m) (numbers_of xs)) same rising.0) others)
+      ap (λ (b : Bool). cond b (f (peer_in v os t x) ∷ peers_in v os t xs) (peer_in v os t x ∷ changed_first (is_numbered p.number) f (peers_in v os t xs))) (eq-eqb x.number p.number (ap (λ (y : Peer L). y.number) same))
+      ∙ ap (λ (y : Peer L). f (peer_in v os t y) ∷ peers_in v os t xs) same
+      ∙ ap (λ (y : state.Peer). y ∷ peers_in v os t xs) here
+      ∙ ap (λ (ys : List state.Peer). peer_in v os' t' p' ∷ ys) (same-above p.number xs (subst (λ (y : Peer L). AllByRecursion (λ m. y.number < m) (numbers_of xs)) same rising.0) others)
   changed-place f (suc i) (x ∷ xs) p p' rising at here others =
       let differs = first-differs x p xs i rising.0 at in
-      ap (λ (b : Bool). cond b (f (peer_in v t x) ∷ peers_in v t xs) (peer_in v t x ∷ changed_first (is_numbered p.number) f (peers_in v t xs))) (ne_eqb x.number p.number differs)
-      ∙ ap (λ (y : state.Peer). y ∷ changed_first (is_numbered p.number) f (peers_in v t xs)) (others x differs)
-      ∙ ap (λ (ys : List state.Peer). peer_in v t' x ∷ ys) (changed-place f i xs p p' rising.1 at here others)
+      ap (λ (b : Bool). cond b (f (peer_in v os t x) ∷ peers_in v os t xs) (peer_in v os t x ∷ changed_first (is_numbered p.number) f (peers_in v os t xs))) (ne_eqb x.number p.number differs)
+      ∙ ap (λ (y : state.Peer). y ∷ changed_first (is_numbered p.number) f (peers_in v os t xs)) (others x differs)
+      ∙ ap (λ (ys : List state.Peer). peer_in v os' t' x ∷ ys) (changed-place f i xs p p' rising.1 at here others)
 
 -- ---- which ends are owed to a peer
 
@@ -149,11 +150,11 @@ any-in : (a : ℕ) (xs : List Announced) → list_any (state.tells_gone a) (map 
 any-in a [] = refl
 any-in a (x ∷ xs) = ap (λ (b : Bool). tells_gone a x || b) (any-in a xs)
 
-pub owed-ends : {L : Type 0} (v : L → LaneSeen) (t : Table) (a : ℕ) (ps : List (Peer L)) → is_owed_end (peers_in v t ps) a ≡ list_any (ends_at a t.owing) (numbers_of ps)
-owed-ends v t a [] = refl
-owed-ends v t a (p ∷ ps) =
-    ap (λ (b : Bool). b || is_owed_end (peers_in v t ps) a) (any-in a (owed_by (owing_to t p.number)))
-    ∙ ap (λ (b : Bool). ends_at a t.owing p.number || b) (owed-ends v t a ps)
+pub owed-ends : {L : Type 0} (v : L → LaneSeen) (os : List PartRead) (t : Table) (a : ℕ) (ps : List (Peer L)) → is_owed_end (peers_in v os t ps) a ≡ list_any (ends_at a t.owing) (numbers_of ps)
+owed-ends v os t a [] = refl
+owed-ends v os t a (p ∷ ps) =
+    ap (λ (b : Bool). b || is_owed_end (peers_in v os t ps) a) (any-in a (owed_by (owing_to t p.number)))
+    ∙ ap (λ (b : Bool). ends_at a t.owing p.number || b) (owed-ends v os t a ps)
 
 find-above : (n : ℕ) (os : List Owing) → AllByRecursion (λ o. n < o.peer) os → find (λ o. o.peer == n) os ≡ None
 find-above n [] above = refl

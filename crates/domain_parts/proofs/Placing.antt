@@ -15,6 +15,7 @@ use Rattle.domain_parts.specs.Out.{Out}
 use Rattle.domain_parts.specs.Steps.{without_frames}
 use Rattle.domain_parts.proofs.Books.{Changes, TakesOut, changed-item, each-slot, frames-none, frames-some, kept-by, lent-changes, often-other, often-own, pieces-same, queued-changes, queued-place, same-slot, takes-out, whole-none, whole-some}
 use Rattle.domain_parts.proofs.Placed.{HasMore, IsLane, Stands, away-frame, away-free, away-none, away-nowhere, count-each, count-stays, frame-kept, frame-own, frame-parts, beside_by, frame-true, item-times, not-held, more-before, no-frame, times-here, times-there, whole-there}
+use Rattle.mc_base.specs.Limits.{item_size}
 
 -- ---- a slot is changed, and what stands elsewhere stays
 
@@ -28,7 +29,7 @@ module _ (ss ls ss' ls' : List Slot) (b b' : Book) (s : Slot) (fs : List ℕ) (a
   queued-there : (t : Slot) → is_same s t ≡ false → queued_at b' t ≡ queued_at b t
   queued-there t differ = ap (λ (o : Option Item). option_and_then (if_state None) o) (c.items t differ)
 
-  stands-after : ((t : Slot) → is_same s t ≡ false → times_in t ss' ≡ times_in t ss) → ((t : Slot) → is_same s t ≡ false → times_in t ls' ≡ times_in t ls)
+  pub stands-after : ((t : Slot) → is_same s t ≡ false → times_in t ss' ≡ times_in t ss) → ((t : Slot) → is_same s t ≡ false → times_in t ls' ≡ times_in t ls)
       → times_in s ss' ≡ one_if (is_some (option_and_then (if_state None) after)) → times_in s ls' + one_if (is_some (option_and_then (if_state None) after)) ≡ one_if (is_some after)
       → ((f : Slot) → count_by (has_frame b' f) (ss' ++ ls') ≡ one_if (is_some (kept_at b' f))) → ((f : ℕ) → often f (frames_at b' s) ≤ 1) → IsNamed s after → IsShort (whole_at b' s) → Stands ss' ls' b'
   stands-after same same' stands lends frames once named short =
@@ -68,7 +69,7 @@ lane-same number o b b' ns s fs after c differ l = record {
 
 -- ---- an item of one frame comes in
 
-often-one : (n f : ℕ) → 0 < often f (n ∷ []) → n ≡ f
+pub often-one : (n f : ℕ) → 0 < often f (n ∷ []) → n ≡ f
 often-one n f among = go (n == f) refl
   where
     go : (x : Bool) → (n == f) ≡ x → n ≡ f
@@ -99,7 +100,7 @@ module _ (ss ls : List Slot) (b : Book) (st : Stands ss ls b) (s : Slot) (away :
       whole-some new_book s (single s.buffer) (changed-item in-changes)
       ∙ ap (λ (o : Option Kept). Some (record { item = single s.buffer; pieces = option_to_list o ++ [] })) kept-in
 
-  module _ (ts : List Slot) (more : HasMore s ss ts) (short : length (content k) ≤ 488) where
+  module _ (ts : List Slot) (more : HasMore s ss ts) (short : length (content k) ≤ item_size) where
     in-frames : (f : Slot) → count_by (has_frame new_book f) (ts ++ ls) ≡ one_if (is_some (kept_at new_book f))
     in-frames f =
         let m = more-before s ss ts ls more (has_frame new_book f) in

@@ -7,6 +7,7 @@ use Rattle.std.proofs.lemmas.List.{append-nil, drop-take, get_or-take, length-ta
 use Rattle.byteorder.specs.Endian.{little_number}
 use Rattle.byteorder.specs.Numbers.{little_from-take}
 use Rattle.mc_base.specs.Bytes.{number_at}
+use Rattle.mc_base.specs.Limits.{item_size}
 use Rattle.mc_base.specs.Stored.{Stored}
 use Rattle.mc_base.specs.Frame.{source_of}
 use Rattle.mc_base.specs.declared.name.Local.{Local}
@@ -26,15 +27,17 @@ use Rattle.request_set.specs.declared.ask.Complete.{Complete}
 use Rattle.request_set.specs.declared.ask.Ask.{Ask}
 use Rattle.request_set.specs.Requests.{IsPending, Requests, Standing, is_id, receives_at, request_of, with_complete}
 use Rattle.domain_parts.specs.declared.endpoints.Endpoint.{Endpoint}
-use Rattle.domain_parts.specs.Table.{Held, with_held}
-use Rattle.domain_parts.specs.Records.{Records, all_waiting, lent_slots, waiting_in, with_best_taken, with_waiting, with_waiting_at}
+use Rattle.domain_parts.specs.declared.parts.OpenPart.{OpenPart}
+use Rattle.domain_parts.specs.Table.{Held, PartRead, with_held}
+use Rattle.domain_parts.specs.Records.{Records, all_waiting, lent_slots, part_slots, waiting_in, with_best_taken, with_waiting, with_waiting_at}
 use Rattle.domain_parts.specs.Out.{Out}
-use Rattle.domain_parts.specs.InBook.{Whole, channel_of, endpoints_in, held_by, item_in, item_read, numbered_at, outcome_in, packets_in, priority_in, priority_of, request_in, requests_in, table_in, whole_at}
+use Rattle.domain_parts.specs.InBook.{Whole, channel_of, endpoints_in, held_by, item_in, item_read, numbered_at, open_parts, outcome_in, packets_in, priority_in, priority_of, request_in, requests_in, table_in, whole_at}
 use Rattle.domain_parts.specs.InRequests.{AreReceives, Receives, handed_by, handed_slots}
-use Rattle.domain_parts.specs.InPlaces.{AreInPlaces, AreInPlacesBut, EachInPlace, IsLentAs, KeepOthers, is_misplaced, one_if, slot_at, slots_of, times_in, times_waiting}
+use Rattle.domain_parts.specs.InPlaces.{AreInPlaces, AreInPlacesBut, AreOpen, EachInPlace, IsLentAs, KeepOthers, is_misplaced, one_if, slot_at, slots_of, times_in, times_waiting}
 use Rattle.domain_parts.specs.Verdicts.{framed_item, item_with}
 use Rattle.domain_parts.proofs.Handed.{packets-stay, requests-stay}
 use Rattle.domain_parts.proofs.Leaving.{each-lent}
+use Rattle.domain_parts.proofs.OpenParts.{open-stay, parts-stay}
 use Rattle.domain_parts.proofs.Books.{Others}
 use Rattle.domain_parts.proofs.Placed.{HasMore, IsLane, Stands, away-lent, away-none, in-place, lane-of, stands-of}
 use Rattle.domain_parts.proofs.Placing.{in-changes, in-others, in-stands, in-whole, lane-away, lane-in, lane-same}
@@ -97,7 +100,7 @@ handed-receives_so (ask.Connect channel) s at is = absurd cc
 -- a buffer of the lane from a peer is put into the book
 module _ (r : Records) (q : Requests) (b b' : Book) (p : Out) (peer : ℕ) (s : Slot) (buffer : Stored) (size len : ℕ)
     (places : AreInPlacesBut buffer.number peer r q b p) (at : s ≡ slot_at peer buffer.number)
-    (book : b' ≡ with_queued b s (kept_in_buffer buffer 24 size)) (size_fits : size ≤ 488) (fits : 24 + size ≤ length (take len buffer.bytes)) where
+    (book : b' ≡ with_queued b s (kept_in_buffer buffer 24 size)) (size_fits : size ≤ item_size) (fits : 24 + size ≤ length (take len buffer.bytes)) where
   abbrev s' : Slot
   s' = slot_at peer buffer.number
 
@@ -106,6 +109,9 @@ module _ (r : Records) (q : Requests) (b b' : Book) (p : Out) (peer : ℕ) (s : 
 
   abbrev ws : List Waiting
   ws = all_waiting r.endpoints
+
+  abbrev os : List Slot
+  os = part_slots r.parts
 
   abbrev hs : List Slot
   hs = handed_slots q.standing
@@ -133,10 +139,13 @@ module _ (r : Records) (q : Requests) (b b' : Book) (p : Out) (peer : ℕ) (s : 
   none = away-none (slots_of r q) (lent_slots r) b st s' away
 
   none-waiting : times_waiting s' ws ≡ 0
-  none-waiting = omega (arith, none, times-all s' ws hs)
+  none-waiting = omega (arith, none, times-all s' os ws hs)
 
   none-handed : times_in s' hs ≡ 0
-  none-handed = omega (arith, none, times-all s' ws hs)
+  none-handed = omega (arith, none, times-all s' os ws hs)
+
+  none-open : times_in s' os ≡ 0
+  none-open = omega (arith, none, times-all s' os ws hs)
 
   none-lent : times_in s' (lent_slots r) ≡ 0
   none-lent = away-lent (slots_of r q) (lent_slots r) b st s' away
@@ -147,19 +156,24 @@ module _ (r : Records) (q : Requests) (b b' : Book) (p : Out) (peer : ℕ) (s : 
   others : Others b b2 s'
   others = in-others (slots_of r q) (lent_slots r) b st s' away k
 
-  short : length (content k) ≤ 488
+  short : length (content k) ≤ item_size
   short = omega (arith, length-take size (drop 24 buffer.bytes), size_fits)
 
   -- what is lent is lent in other slots
   lent-still : AllByRecursion (IsLentAs b2) r.lent
   lent-still = each-lent b b2 s' others r.lent none-lent places.lent
 
+  -- what is open stays so
+  open-still : AreOpen b2 r.parts
+  open-still = open-stay b b2 s' others r.parts none-open places.parts
+
   -- what was there stays
   stay : held_by b2 r q ≡ held_by b r q
   stay =
-      ap (λ (es : List state.Endpoint). record { endpoints = es; requests = requests_in b2 q.standing; lent = packets_in b2 r.lent }) (endpoints-stay b b2 s' others r.endpoints none-waiting)
-      ∙ ap (λ (rs : List state.Request). record { endpoints = endpoints_in b r.endpoints; requests = rs; lent = packets_in b2 r.lent }) (requests-stay b b2 s' others q.standing none-handed)
-      ∙ ap (λ (ls : List LentPacket). record (held_by b r q) { lent = ls }) (packets-stay b b2 s' others r.lent none-lent)
+      ap (λ (es : List state.Endpoint). record { endpoints = es; requests = requests_in b2 q.standing; lent = packets_in b2 r.lent; parts = open_parts b2 r.parts }) (endpoints-stay b b2 s' others r.endpoints none-waiting)
+      ∙ ap (λ (rs : List state.Request). record { endpoints = endpoints_in b r.endpoints; requests = rs; lent = packets_in b2 r.lent; parts = open_parts b2 r.parts }) (requests-stay b b2 s' others q.standing none-handed)
+      ∙ ap (λ (ls : List LentPacket). record (held_by b r q) { lent = ls; parts = open_parts b2 r.parts }) (packets-stay b b2 s' others r.lent none-lent)
+      ∙ ap (λ (xs : List PartRead). record (held_by b r q) { parts = xs }) (parts-stay b b2 s' others r.parts none-open)
 
   -- the message of the frame, as many of whose bytes as it has stand in the buffer
   item-is : item_with (buffer.number ∷ []) peer (source_of buffer.bytes) (priority_of buffer.bytes) (channel_of buffer.bytes) (take size (drop 24 buffer.bytes) ++ []) ≡ framed_item (buffer.number ∷ []) peer frame size
@@ -197,8 +211,8 @@ module _ (r : Records) (q : Requests) (b b' : Book) (p : Out) (peer : ℕ) (s : 
     records-are : r' ≡ with_waiting_at r i w
     records-are = records ∙ ap (λ (x : Slot). with_waiting_at r i (waiting x priority)) at
 
-    more : i < length r.endpoints → HasMore s' (slots ws ++ hs) (slots vs ++ hs)
-    more lt = waiting-has w ws vs hs (λ test. waiting-more test w r.endpoints i lt)
+    more : i < length r.endpoints → HasMore s' (slots_of r q) (os ++ (slots vs ++ hs))
+    more lt = waiting-has w os ws vs hs (λ test. waiting-more test w r.endpoints i lt)
 
     priorities : i < length r.endpoints → count_by (is_misplaced b2) vs ≡ 0
     priorities lt =
@@ -210,16 +224,18 @@ module _ (r : Records) (q : Requests) (b b' : Book) (p : Out) (peer : ℕ) (s : 
 
     pub queued-places : i < length r.endpoints → AreInPlaces peer r' q b' p
     queued-places lt = queued-moved peer p (record {
-      each = own-each (slots vs ++ hs) (more lt);
+      each = own-each (os ++ (slots vs ++ hs)) (more lt);
       priorities = priorities lt;
       lent = lent-still;
+      parts = open-still;
     })
 
     pub queued-others : i < length r.endpoints → KeepOthers peer r q b r' q b'
     queued-others lt n o differ placed = queued-moved n o (record {
-      each = other-each (slots vs ++ hs) (more lt) n o differ placed;
+      each = other-each (os ++ (slots vs ++ hs)) (more lt) n o differ placed;
       priorities = priorities lt;
       lent = lent-still;
+      parts = open-still;
     })
 
     pub queued-table : table_in b' r' q ≡ with_held (table_in b r q) (record (held_by b r q) { endpoints = changed_at (queued_last (framed_item (buffer.number ∷ []) peer frame size)) i (endpoints_in b r.endpoints) })
@@ -229,7 +245,7 @@ module _ (r : Records) (q : Requests) (b b' : Book) (p : Out) (peer : ℕ) (s : 
         let item : item_in b'' w ≡ item_with (buffer.number ∷ []) peer (source_of buffer.bytes) (priority_of buffer.bytes) (channel_of buffer.bytes) (take size (drop 24 buffer.bytes) ++ []) = ap (λ (o : Option Whole). item_read o s' priority) here ∙ ap (λ (n : ℕ). item_with (buffer.number ∷ []) peer (source_of buffer.bytes) n (channel_of buffer.bytes) (take size (drop 24 buffer.bytes) ++ [])) priority-is in
         ap (λ (x : Records). table_in b' x q) records-are
         ∙ ap (λ (x : Book). table_in x (with_waiting_at r i w) q) book-is
-        ∙ ap (λ (xs : List state.Endpoint). with_held (table_in b r q) (record { endpoints = xs; requests = requests_in b'' q.standing; lent = packets_in b'' r.lent })) (endpoints-more b'' w es i)
+        ∙ ap (λ (xs : List state.Endpoint). with_held (table_in b r q) (record { endpoints = xs; requests = requests_in b'' q.standing; lent = packets_in b'' r.lent; parts = open_parts b'' r.parts })) (endpoints-more b'' w es i)
         ∙ ap (λ (h : Held). with_held (table_in b r q) (record h { endpoints = changed_at (queued_last (item_in b'' w)) i h.endpoints })) stay
         ∙ ap (λ (x : Item). with_held (table_in b r q) (record (held_by b r q) { endpoints = changed_at (queued_last x) i (endpoints_in b es) })) (item ∙ item-is)
 
@@ -245,24 +261,26 @@ module _ (r : Records) (q : Requests) (b b' : Book) (p : Out) (peer : ℕ) (s : 
     requests-are : q' ≡ q''
     requests-are = requests ∙ ap (λ (x : Slot). with_complete q id (handed_by a x)) at
 
-    one-handed : HasMore s' (slots ws ++ hs) (slots ws ++ gs)
-    one-handed = handed-has s' ws hs gs (λ test. handed-more test id s' a q.standing receives.differ pending)
+    one-handed : HasMore s' (slots_of r q) (os ++ (slots ws ++ gs))
+    one-handed = handed-has s' os ws hs gs (λ test. handed-more test id s' a q.standing receives.differ pending)
 
     handed-moved : (n : ℕ) (o : Out) → AreInPlaces n r q'' (with_queued b s' k) o → AreInPlaces n r q' b' o
     handed-moved n o placed = subst (λ (x : Requests). AreInPlaces n r x b' o) (sym requests-are) (subst (λ (x : Book). AreInPlaces n r q'' x o) (sym book-is) placed)
 
     pub handed-places : AreInPlaces peer r q' b' p
     handed-places = handed-moved peer p (record {
-      each = own-each (slots ws ++ gs) one-handed;
+      each = own-each (os ++ (slots ws ++ gs)) one-handed;
       priorities = misplaced-stay b b2 s' others ws none-waiting ∙ places.priorities;
       lent = lent-still;
+      parts = open-still;
     })
 
     pub handed-others : KeepOthers peer r q b r q' b'
     handed-others n o differ placed = handed-moved n o (record {
-      each = other-each (slots ws ++ gs) one-handed n o differ placed;
+      each = other-each (os ++ (slots ws ++ gs)) one-handed n o differ placed;
       priorities = misplaced-stay b b2 s' others ws none-waiting ∙ places.priorities;
       lent = lent-still;
+      parts = open-still;
     })
 
     pub handed-table : table_in b' r q' ≡ with_held (table_in b r q) (record (held_by b r q) { requests = changed (complete_with (framed_item (buffer.number ∷ []) peer frame size)) (position (is_id id) q.standing) (requests_in b q.standing) })
@@ -272,8 +290,8 @@ module _ (r : Records) (q : Requests) (b b' : Book) (p : Out) (peer : ℕ) (s : 
         let place = position (is_id id) q.standing in
         ap (λ (x : Requests). table_in b' r x) requests-are
         ∙ ap (λ (x : Book). table_in x r q'') book-is
-        ∙ ap (λ (xs : List Standing). with_held (table_in b r q) (record { endpoints = endpoints_in b'' r.endpoints; requests = requests_in b'' xs; lent = packets_in b'' r.lent })) (complete-at id how q.standing receives.differ)
-        ∙ ap (λ (xs : List state.Request). with_held (table_in b r q) (record { endpoints = endpoints_in b'' r.endpoints; requests = xs; lent = packets_in b'' r.lent })) (map-changed (request_in b'') (complete_now how) (complete_with (numbered_at b'' s')) (λ x. ap (λ (o : state.Outcome). record (request_in b'' x) { outcome = Some o }) (handed-item b'' a s')) place q.standing)
+        ∙ ap (λ (xs : List Standing). with_held (table_in b r q) (record { endpoints = endpoints_in b'' r.endpoints; requests = requests_in b'' xs; lent = packets_in b'' r.lent; parts = open_parts b'' r.parts })) (complete-at id how q.standing receives.differ)
+        ∙ ap (λ (xs : List state.Request). with_held (table_in b r q) (record { endpoints = endpoints_in b'' r.endpoints; requests = xs; lent = packets_in b'' r.lent; parts = open_parts b'' r.parts })) (map-changed (request_in b'') (complete_now how) (complete_with (numbered_at b'' s')) (λ x. ap (λ (o : state.Outcome). record (request_in b'' x) { outcome = Some o }) (handed-item b'' a s')) place q.standing)
         ∙ ap (λ (h : Held). with_held (table_in b r q) (record h { requests = changed (complete_with (numbered_at b'' s')) place h.requests })) stay
         ∙ ap (λ (x : Item). with_held (table_in b r q) (record (held_by b r q) { requests = changed (complete_with x) place (requests_in b q.standing) })) item-here
 
@@ -301,8 +319,8 @@ module _ (r : Records) (q : Requests) (b : Book) (i : ℕ) (w : Waiting) (is : b
   hs2 = handed_slots q.standing
 
   -- one slot more was there
-  pub received-more : HasMore w.slot (slots vs2 ++ hs2) (slots ws2 ++ hs2)
-  received-more = waiting-has w vs2 ws2 hs2 (λ test. sym (waiting-less test w r.endpoints i is))
+  pub received-more : HasMore w.slot (part_slots r.parts ++ (slots vs2 ++ hs2)) (slots_of r q)
+  received-more = waiting-has w (part_slots r.parts) vs2 ws2 hs2 (λ test. sym (waiting-less test w r.endpoints i is))
 
   pub received-fewer : count_by (is_misplaced b) vs2 ≤ count_by (is_misplaced b) ws2
   received-fewer = let l = waiting-less (is_misplaced b) w r.endpoints i is in omega (arith, l)
@@ -325,7 +343,7 @@ module _ (r : Records) (q : Requests) (b : Book) (es : List Endpoint) (w : Waiti
   r4 = record r { endpoints = es }
 
   pub out-more : HasMore w.slot (slots_of r4 q) (slots_of r q)
-  out-more = waiting-has w (all_waiting es) (all_waiting r.endpoints) (handed_slots q.standing) (λ test. sym (one-less test))
+  out-more = waiting-has w (part_slots r.parts) (all_waiting es) (all_waiting r.endpoints) (handed_slots q.standing) (λ test. sym (one-less test))
 
   pub out-fewer : count_by (is_misplaced b) (all_waiting es) ≤ count_by (is_misplaced b) (all_waiting r.endpoints)
   out-fewer = let l = one-less (is_misplaced b) in omega (arith, l)
@@ -334,16 +352,18 @@ module _ (r : Records) (q : Requests) (b : Book) (es : List Endpoint) (w : Waiti
 
 module _ (r : Records) (q q' : Requests) (b : Book) (s : Slot) (fewer : HasMore s (handed_slots q'.standing) (handed_slots q.standing)) where
   pub ended-more : HasMore s (slots_of r q') (slots_of r q)
-  ended-more = handed-has s (all_waiting r.endpoints) (handed_slots q'.standing) (handed_slots q.standing) fewer
+  ended-more = handed-has s (part_slots r.parts) (all_waiting r.endpoints) (handed_slots q'.standing) (handed_slots q.standing) fewer
 
 -- ---- a request that holds nothing is gone, or is new
 
 -- what waits and what was handed are the same
-pub same-held : (r r' : Records) (q q' : Requests) (b : Book) (number : ℕ) (p : Out) → r'.lent ≡ r.lent → all_waiting r'.endpoints ≡ all_waiting r.endpoints → handed_slots q'.standing ≡ handed_slots q.standing → AreInPlaces number r q b p → AreInPlaces number r' q' b p
-same-held r r' q q' b number p lends waits hands places = record {
+pub same-held : (r r' : Records) (q q' : Requests) (b : Book) (number : ℕ) (p : Out) → r'.lent ≡ r.lent → r'.parts ≡ r.parts → all_waiting r'.endpoints ≡ all_waiting r.endpoints → handed_slots q'.standing ≡ handed_slots q.standing → AreInPlaces number r q b p → AreInPlaces number r' q' b p
+same-held r r' q q' b number p lends opens waits hands places = record {
   each = subst (λ (ids : List PacketId). EachInPlace number p (slots_of r' q') (map slot_of ids) b []) (sym lends)
-      (subst (λ (ws : List Waiting). EachInPlace number p (slots ws ++ handed_slots q'.standing) (lent_slots r) b []) (sym waits)
-      (subst (λ (hs : List Slot). EachInPlace number p (slots (all_waiting r.endpoints) ++ hs) (lent_slots r) b []) (sym hands) places.each));
+      (subst (λ (os : List OpenPart). EachInPlace number p (part_slots os ++ (slots (all_waiting r'.endpoints) ++ handed_slots q'.standing)) (lent_slots r) b []) (sym opens)
+      (subst (λ (ws : List Waiting). EachInPlace number p (part_slots r.parts ++ (slots ws ++ handed_slots q'.standing)) (lent_slots r) b []) (sym waits)
+      (subst (λ (hs : List Slot). EachInPlace number p (part_slots r.parts ++ (slots (all_waiting r.endpoints) ++ hs)) (lent_slots r) b []) (sym hands) places.each)));
   priorities = ap (count_by (is_misplaced b)) waits ∙ places.priorities;
   lent = subst (AllByRecursion (IsLentAs b)) (sym lends) places.lent;
+  parts = subst (AreOpen b) (sym opens) places.parts;
 }

@@ -26,7 +26,7 @@ use Rattle.board_model.specs.TakenFrames as taken
 use Rattle.bridge_frame.proofs.Bytes.{little_bytes-little_number}
 use Rattle.mc_base.specs.declared.channel.Bits.{Bits}
 use Rattle.mc_base.specs.declared.channel.Bits.TheVariants.{B8, B16, B32, B64}
-use Rattle.domain_parts.specs.Verdicts.{Fits, IsItem, IsInBounds, framed_item, item_with}
+use Rattle.domain_parts.specs.Verdicts.{AreBytes, Fits, IsItem, IsInBounds, framed_item, item_with}
 
 pub none-from : {X : Type 0} (o : Option X) → ((x : X) → o ≡ Some x → ⊥) → o ≡ None
 none-from None h = refl
@@ -62,16 +62,16 @@ head_passes {F} r rs = go r.stands refl
 
 -- ---- what a frame without a fault has in its bytes
 
--- the fields of its letter, of version 1, and what the letter's kind allows
-pub record Lies (frame : List ℕ) : Type 0 where
+-- the fields of its payload, and what the kind allows by the forms of its version
+pub record Lies (frame : List ℕ) (table : List Form) : Type 0 where
   pub kind : (fields_in (payload_of frame)).kind ≡ slice_index frame 18
   pub argument : (fields_in (payload_of frame)).argument ≡ slice_index frame 19
   pub channel : (fields_in (payload_of frame)).channel ≡ number_at 20 4 frame
   pub content : (fields_in (payload_of frame)).content ≡ take (length (fields_in (payload_of frame)).content) (drop 24 frame)
   pub inside : 24 + length (fields_in (payload_of frame)).content ≤ length frame
-  pub allowed : allows (form_in (fields_in (payload_of frame)).kind forms) (λ form. form.content (fields_in (payload_of frame))) ≡ true
-  pub numbered : allows (form_in (fields_in (payload_of frame)).kind forms) (λ form. form.channel (fields_in (payload_of frame)).channel) ≡ true
-  pub argued : allows (form_in (fields_in (payload_of frame)).kind forms) (λ form. form.argument (fields_in (payload_of frame)).argument) ≡ true
+  pub allowed : allows (form_in (fields_in (payload_of frame)).kind table) (λ form. form.content (fields_in (payload_of frame))) ≡ true
+  pub numbered : allows (form_in (fields_in (payload_of frame)).kind table) (λ form. form.channel (fields_in (payload_of frame)).channel) ≡ true
+  pub argued : allows (form_in (fields_in (payload_of frame)).kind table) (λ form. form.argument (fields_in (payload_of frame)).argument) ≡ true
 
 not_lt : (a b : ℕ) → nat_lt a b ≡ false → b ≤ a
 not_lt a b e = grind arith
@@ -80,12 +80,12 @@ not_not : (b : Bool) → not b ≡ false → b ≡ true
 not_not true e = refl
 not_not false e = absurd cc
 
--- the form of a kind in version 1
-whole-form : (f : Fields) → (f.version == 2) ≡ false → (P : Option Form → Bool) → P (form_of f) ≡ P (form_in f.kind forms)
-whole-form f whole P = ap (λ (b : Bool). P (form_in f.kind (if b then part_forms else forms))) whole
+-- the form of a kind, by whether its version is 2
+version-form : (f : Fields) (parts : Bool) → (f.version == 2) ≡ parts → (P : Option Form → Bool) → P (form_of f) ≡ P (form_in f.kind (if parts then part_forms else forms))
+version-form f parts is P = ap (λ (b : Bool). P (form_in f.kind (if b then part_forms else forms))) is
 
-sound-lies : (frame : List ℕ) → fault frame ≡ None → (destination_of frame == 53) ≡ false → ((fields_in (payload_of frame)).version == 2) ≡ false → Lies frame
-sound-lies frame none to_endpoint whole =
+pub sound-lies : (frame : List ℕ) → fault frame ≡ None → (destination_of frame == 53) ≡ false → (parts : Bool) → ((fields_in (payload_of frame)).version == 2) ≡ parts → Lies frame (if parts then part_forms else forms)
+sound-lies frame none to_endpoint parts version_is =
     let payload = payload_of frame in
     let f = fields_in payload in
     let behind_frame = payload_faults (destination_of frame) payload in
@@ -127,9 +127,9 @@ sound-lies frame none to_endpoint whole =
           ∙ ap (little_number 4) (drop-drop 4 16 frame);
       content = ap (λ (k : ℕ). drop 8 (take k (drop 16 frame))) n ∙ drop-take 8 (length (drop 8 payload)) (drop 16 frame) ∙ ap (take (length (drop 8 payload))) (drop-drop 8 16 frame);
       inside = omega (arith, n, header, within);
-      allowed = sym (whole-form f whole (λ o. allows o (λ form. form.content f))) ∙ not_not _ size.0;
-      numbered = sym (whole-form f whole (λ o. allows o (λ form. form.channel f.channel))) ∙ not_not _ channel.0;
-      argued = sym (whole-form f whole (λ o. allows o (λ form. form.argument f.argument))) ∙ not_not _ argument.0;
+      allowed = sym (version-form f parts version_is (λ o. allows o (λ form. form.content f))) ∙ not_not _ size.0;
+      numbered = sym (version-form f parts version_is (λ o. allows o (λ form. form.channel f.channel))) ∙ not_not _ channel.0;
+      argued = sym (version-form f parts version_is (λ o. allows o (λ form. form.argument f.argument))) ∙ not_not _ argument.0;
     }
 
 -- ---- the fields of a letter, by its kind
@@ -187,7 +187,7 @@ not_le : (a b : ℕ) → nat_le a b ≡ true → a ≤ b
 not_le a b e = grind arith
 
 -- the item lies in the frame as its payload says
-framed-whole : (frame : List ℕ) → Lies frame → (peer size : ℕ) → size ≡ length (fields_in (payload_of frame)).content → framed_item (0 ∷ []) peer frame size ≡ item_of peer frame
+framed-whole : (frame : List ℕ) → Lies frame forms → (peer size : ℕ) → size ≡ length (fields_in (payload_of frame)).content → framed_item (0 ∷ []) peer frame size ≡ item_of peer frame
 framed-whole frame lies peer size is =
     let payload = payload_of frame in
     ap (λ (n : ℕ). framed_item (0 ∷ []) peer frame n) is
@@ -195,10 +195,6 @@ framed-whole frame lies peer size is =
     ∙ ap (λ (k : ℕ). item_with (0 ∷ []) peer (source_of frame) (if k == 1 then slice_index frame 19 else 0) (if k == 1 then None else Some (number_at 20 4 frame)) (drop 8 payload)) (sym lies.kind)
     ∙ ap (λ (a : ℕ). item_with (0 ∷ []) peer (source_of frame) (if slice_index payload 2 == 1 then a else 0) (if slice_index payload 2 == 1 then None else Some (number_at 20 4 frame)) (drop 8 payload)) (sym lies.argument)
     ∙ ap (λ (n : ℕ). item_with (0 ∷ []) peer (source_of frame) (if slice_index payload 2 == 1 then slice_index payload 3 else 0) (if slice_index payload 2 == 1 then None else Some n) (drop 8 payload)) (sym lies.channel)
-
--- each byte is one
-abbrev pub AreBytes : List ℕ → Type 0
-AreBytes xs = (i : ℕ) → slice_index xs i < 256
 
 -- a width of a scalar is that of its bits
 width-back : (a : ℕ) → a_width a ≡ true → bytes_of_bits (bits_of_bytes a) ≡ a
@@ -218,7 +214,7 @@ width-back a is = one (a == 1) refl
     one true e = sym (eqb-true a 1 e)
     one false e = two (a == 2) refl e
 
-module _ (frame : List ℕ) (lies : Lies frame) where
+module _ (frame : List ℕ) (lies : Lies frame forms) where
   abbrev fs : Fields
   fs = fields_in (payload_of frame)
 
@@ -306,7 +302,7 @@ module _ (frame : List ℕ) (lies : Lies frame) where
 
 -- the frame has no fault, and this letter is in its fields
 pub record SaysLetter (frame : List ℕ) (source : ℕ) (l : PlainLetter) : Type 0 where
-  pub lies : Lies frame
+  pub lies : Lies frame forms
   pub from : source_of frame ≡ source
   pub reads : Reads (fields_in (payload_of frame)) l
 
@@ -322,7 +318,7 @@ module _ (frame : List ℕ) (source destination : ℕ) (l : PlainLetter) where
   by_version false v e none is =
       let from : source_of frame ≡ source = cc in
       let letter : letter_of parsed ≡ l = cc in
-      record { lies = sound-lies frame none e v; from = from; reads = letter-reads parsed l letter }
+      record { lies = sound-lies frame none e false v; from = from; reads = letter-reads parsed l letter }
 
   by_destination : (b : Bool) → (destination_of frame == 53) ≡ b → fault frame ≡ None → says source destination l ≡ cond b (announced_in (payload_of frame)) (said_by (parsed.version == 2)) → SaysLetter frame source l
   by_destination true e none is = absurd cc

@@ -3,6 +3,7 @@ use Rattle.std.proofs.Common.{◌≡◌, ℕ, ◌+◌, ◌<◌, ◌≤◌, List,
 use Rattle.std.specs.Prelude.{option_and_then, option_map, slice_get, ◌%◌, ◌^◌}
 use Rattle.std.specs.List.{AllByRecursion}
 use Rattle.std.proofs.lemmas.List.{map_push}
+use Rattle.mc_base.specs.Limits.{item_size}
 use Rattle.mc_base.specs.declared.name.Local.{Local}
 use Rattle.mc_base.specs.declared.request.RequestId.{RequestId}
 use Rattle.mc_base.specs.declared.request.Slot.{Slot}
@@ -22,19 +23,20 @@ use Rattle.request_set.specs.Requests.{Requests, without_request}
 use Rattle.domain_parts.specs.LaneSeen.{LaneSeen}
 use Rattle.domain_parts.specs.declared.peer.Peer.{Peer}
 use Rattle.domain_parts.specs.GivingBack.{AreOutAt, GivesBack}
-use Rattle.domain_parts.specs.InBook.{content_in, endpoints_in, frames_at, item_in, numbered_at, outcome_in, packets_in, request_in, requests_in, whole_at}
+use Rattle.domain_parts.specs.InBook.{content_in, endpoints_in, frames_at, item_in, numbered_at, open_parts, outcome_in, packets_in, request_in, requests_in, whole_at}
 use Rattle.domain_parts.specs.InPlaces.{slots_of, times_in}
 use Rattle.domain_parts.specs.InRequests.{AreReceives, handed_slots}
 use Rattle.domain_parts.specs.LaneMoves.{LaneMove}
-use Rattle.domain_parts.specs.Peers.{peers_in, state_in}
-use Rattle.domain_parts.specs.Records.{Records, all_waiting, waiting_in, with_best_taken_at}
+use Rattle.domain_parts.specs.Peers.{held_in, peers_in, state_in}
+use Rattle.domain_parts.specs.Table.{PartRead}
+use Rattle.domain_parts.specs.Records.{Records, all_waiting, part_slots, waiting_in, with_best_taken_at}
 use Rattle.domain_parts.specs.Sound.{AreSound, out_at}
 use Rattle.domain_parts.specs.Steps.{with_last, without_frames}
 use Rattle.domain_parts.proofs.Beginning.{last-more, new_standing, pending-same}
 use Rattle.domain_parts.proofs.Ending.{left-receives}
 use Rattle.domain_parts.proofs.GivingLemmas.{All-at, InPlacesAt, all-stand, best-same, given-peers, leaves-out, same-endpoints, some-lane, sound-given, sound-moved, stands-queued}
 use Rattle.domain_parts.proofs.Books.{without-lends}
-use Rattle.domain_parts.proofs.Leaving.{left-endpoints, left-packets, left-requests}
+use Rattle.domain_parts.proofs.Leaving.{left-endpoints, left-packets, left-parts, left-requests}
 use Rattle.domain_parts.proofs.Placed.{HasMore, HaveSame, times-here}
 use Rattle.domain_parts.proofs.Queuing.{ended-more, received-fewer, received-more, received-priority}
 use Rattle.domain_parts.proofs.Slots.{handed-has, handed-same}
@@ -49,22 +51,27 @@ module _ {L : Type 0} (M : L → List LaneMove → L → Type 0) (m-none : (l : 
   abbrev left_book : Book
   left_book = without_frames b s None (frames_at b s)
 
+  abbrev was : List PartRead
+  was = open_parts b r.parts
+
   -- what is held is read as before, though an item is no more in the book
-  pub given-state : HasMore s (slots_of r' q') (slots_of r q) → AllByRecursion (InPlacesAt v b r q) ps → q'.given ≡ q.given → r'.channels ≡ r.channels → r'.lent ≡ r.lent → state_in v left_book r' q' t ps' ≡ record before { endpoints = endpoints_in b r'.endpoints; requests = requests_in b q'.standing }
-  given-state more places given numbered lends =
+  pub given-state : HasMore s (slots_of r' q') (slots_of r q) → AllByRecursion (InPlacesAt v b r q) ps → q'.given ≡ q.given → r'.channels ≡ r.channels → r'.lent ≡ r.lent → r'.parts ≡ r.parts → state_in v left_book r' q' t ps' ≡ record before { endpoints = endpoints_in b r'.endpoints; requests = requests_in b q'.standing }
+  given-state more places given numbered lends opens =
       let p = gives.peer in
       let here = All-at (InPlacesAt v b r q) ps gives.place p places gives.there in
+      let read : open_parts left_book r'.parts ≡ open_parts b r.parts = left-parts r r' q q' b s more p.number (out_at v p) here ∙ ap (open_parts b) opens in
       let made : List state.Endpoint → List state.Peer → List state.Request → ℕ → DomainState = λ es xs rs n. record before { endpoints = es; peers = xs; requests = rs; requests_given = n } in
-      ap (λ (n : ℕ). record (state_in v left_book r' q' t ps') { packets_lent = n }) (without-lends b s None (frames_at b s))
-      ∙ ap (λ (n : ℕ). record (state_in v left_book r' q' t ps') { channels_given = n; packets_lent = b.lends }) numbered
-      ∙ ap (λ (xs : List LentPacket). record (state_in v left_book r' q' t ps') { channels_given = r.channels; lent = xs; packets_lent = b.lends }) (left-packets r r' q q' b s more p.number (out_at v p) here lends ∙ ap (packets_in b) lends)
-      ∙ ap (λ (es : List state.Endpoint). made es (peers_in v t ps') (requests_in left_book q'.standing) q'.given) (left-endpoints r r' q q' b s more p.number (out_at v p) here)
-      ∙ ap (λ (xs : List state.Peer). made (endpoints_in b r'.endpoints) xs (requests_in left_book q'.standing) q'.given) (given-peers M v s.peer (frames_at b s) ps ps' gives t)
-      ∙ ap (λ (rs : List state.Request). made (endpoints_in b r'.endpoints) (peers_in v t ps) rs q'.given) (left-requests r r' q q' b s more p.number (out_at v p) here)
-      ∙ ap (λ (n : ℕ). made (endpoints_in b r'.endpoints) (peers_in v t ps) (requests_in b q'.standing) n) given
+      ap (λ (os : List PartRead). record (state_in v left_book r' q' t ps') { peers = peers_in v os t ps'; held = held_in os }) read
+      ∙ ap (λ (n : ℕ). record (state_in v left_book r' q' t ps') { peers = peers_in v was t ps'; held = held_in was; packets_lent = n }) (without-lends b s None (frames_at b s))
+      ∙ ap (λ (n : ℕ). record (state_in v left_book r' q' t ps') { peers = peers_in v was t ps'; held = held_in was; channels_given = n; packets_lent = b.lends }) numbered
+      ∙ ap (λ (xs : List LentPacket). record (state_in v left_book r' q' t ps') { peers = peers_in v was t ps'; held = held_in was; channels_given = r.channels; lent = xs; packets_lent = b.lends }) (left-packets r r' q q' b s more p.number (out_at v p) here lends ∙ ap (packets_in b) lends)
+      ∙ ap (λ (es : List state.Endpoint). made es (peers_in v was t ps') (requests_in left_book q'.standing) q'.given) (left-endpoints r r' q q' b s more p.number (out_at v p) here)
+      ∙ ap (λ (xs : List state.Peer). made (endpoints_in b r'.endpoints) xs (requests_in left_book q'.standing) q'.given) (given-peers M v s.peer (frames_at b s) ps ps' gives was t)
+      ∙ ap (λ (rs : List state.Request). made (endpoints_in b r'.endpoints) (peers_in v was t ps) rs q'.given) (left-requests r r' q q' b s more p.number (out_at v p) here)
+      ∙ ap (λ (n : ℕ). made (endpoints_in b r'.endpoints) (peers_in v was t ps) (requests_in b q'.standing) n) given
 
 -- an item is short
-pub content-fits : {L : Type 0} (v : L → LaneSeen) (b : Book) (r : Records) (q : Requests) (t : endpoint_table.Table) (ps : List (Peer L)) → AreSound v b r q t ps → (s : Slot) → length (content_in (whole_at b s)) ≤ 488
+pub content-fits : {L : Type 0} (v : L → LaneSeen) (b : Book) (r : Records) (q : Requests) (t : endpoint_table.Table) (ps : List (Peer L)) → AreSound v b r q t ps → (s : Slot) → length (content_in (whole_at b s)) ≤ item_size
 content-fits v b r q t ps sound s = (all-stand v b r q t ps sound).short s
 
 -- ---- the best message at an endpoint
@@ -77,7 +84,7 @@ module _ {L : Type 0} (v : L → LaneSeen) (b : Book) (r : Records) (q : Request
   best-queued = stands-queued v b r q t ps sound w.slot stands
 
   pub best-out : AreOutAt v w.slot.peer (frames_at b w.slot) ps
-  best-out = leaves-out v b r q t ps sound (with_best_taken_at r i) q w.slot refl (received-more r q b i w is) (received-fewer r q b i w is)
+  best-out = leaves-out v b r q t ps sound (with_best_taken_at r i) q w.slot refl (λ are. are) (received-more r q b i w is) (received-fewer r q b i w is)
 
   -- its frame says its priority
   pub best-item : numbered_at b w.slot ≡ item_in b w
@@ -101,7 +108,7 @@ module _ {L : Type 0} (v : L → LaneSeen) (b : Book) (r : Records) (q : Request
   -- ---- it is given to a caller
 
   pub taken-sound : (M : L → List LaneMove → L → Type 0) (ps' : List (Peer L)) → GivesBack M v w.slot.peer (frames_at b w.slot) ps ps' → AreSound v (without_frames b w.slot None (frames_at b w.slot)) (with_best_taken_at r i) q t ps'
-  taken-sound M ps' gives = sound-given M v b r (with_best_taken_at r i) q q t w.slot ps ps' gives (best-same r i) refl (received-more r q b i w is) (received-fewer r q b i w is) sound.receives sound
+  taken-sound M ps' gives = sound-given M v b r (with_best_taken_at r i) q q t w.slot ps ps' gives (best-same r i) refl (λ are. are) (received-more r q b i w is) (received-fewer r q b i w is) sound.receives sound
 
   -- ---- it goes to a request that is new
 
@@ -112,8 +119,8 @@ module _ {L : Type 0} (v : L → LaneSeen) (b : Book) (r : Records) (q : Request
   handed-sound id at max receives =
       let q' = taken_by id at max in
       let r' = with_best_taken_at r i in
-      sound-moved v b r r' q q' t ps (best-same r i) refl
-      (λ test. let less = received-more r q b i w is test in let more = handed-has w.slot (all_waiting r'.endpoints) (handed_slots q.standing) (handed_slots q'.standing) (last-more q id (ask.Message at max) w.slot (complete.Message w.slot max) refl) test in omega (arith, less, more))
+      sound-moved v b r r' q q' t ps (best-same r i) refl (λ are. are)
+      (λ test. let less = received-more r q b i w is test in let more = handed-has w.slot (part_slots r.parts) (all_waiting r'.endpoints) (handed_slots q.standing) (handed_slots q'.standing) (last-more q id (ask.Message at max) w.slot (complete.Message w.slot max) refl) test in omega (arith, less, more))
       (received-fewer r q b i w is) receives sound
 
 -- ---- a receive is begun
@@ -144,7 +151,7 @@ module _ {L : Type 0} (v : L → LaneSeen) (b : Book) (r : Records) (q : Request
 pub pending-sound : {L : Type 0} (v : L → LaneSeen) (b : Book) (r : Records) (q : Requests) (t : endpoint_table.Table) (ps : List (Peer L)) (id : RequestId) (at : Local) (max : ℕ) → AreReceives (with_last q id (ask.Message at max) None) → AreSound v b r q t ps → AreSound v b r (with_last q id (ask.Message at max) None) t ps
 pending-sound v b r q t ps id at max receives sound =
     let q' = with_last q id (ask.Message at max) None in
-    sound-moved v b r r q q' t ps (same-endpoints r) refl (handed-same (all_waiting r.endpoints) (handed_slots q.standing) (handed_slots q'.standing) (pending-same q id (ask.Message at max))) (omega arith) receives sound
+    sound-moved v b r r q q' t ps (same-endpoints r) refl (λ are. are) (handed-same (part_slots r.parts) (all_waiting r.endpoints) (handed_slots q.standing) (handed_slots q'.standing) (pending-same q id (ask.Message at max))) (omega arith) receives sound
 
 -- ---- a request ends
 
@@ -154,7 +161,7 @@ module _ {L : Type 0} (v : L → LaneSeen) (b : Book) (r : Records) (q : Request
 
   -- one that held no message
   pub quiet-sound : HaveSame (handed_slots q.standing) (handed_slots left.standing) → AreSound v b r left t ps
-  quiet-sound same = sound-moved v b r r q left t ps (same-endpoints r) refl (handed-same (all_waiting r.endpoints) (handed_slots q.standing) (handed_slots left.standing) same) (omega arith) (left-receives q id sound.receives) sound
+  quiet-sound same = sound-moved v b r r q left t ps (same-endpoints r) refl (λ are. are) (handed-same (part_slots r.parts) (all_waiting r.endpoints) (handed_slots q.standing) (handed_slots left.standing) same) (omega arith) (left-receives q id sound.receives) sound
 
   -- one that held a message
   module _ (slot : Slot) (fewer : HasMore slot (handed_slots left.standing) (handed_slots q.standing)) where
@@ -165,8 +172,8 @@ module _ {L : Type 0} (v : L → LaneSeen) (b : Book) (r : Records) (q : Request
     held-queued = stands-queued v b r q t ps sound slot held-stands
 
     pub held-out : AreOutAt v slot.peer (frames_at b slot) ps
-    held-out = leaves-out v b r q t ps sound r left slot refl (ended-more r q left b slot fewer) (omega arith)
+    held-out = leaves-out v b r q t ps sound r left slot refl (λ are. are) (ended-more r q left b slot fewer) (omega arith)
 
     module _ (M : L → List LaneMove → L → Type 0) (ps' : List (Peer L)) (gives : GivesBack M v slot.peer (frames_at b slot) ps ps') where
       pub tested-sound : AreSound v (without_frames b slot None (frames_at b slot)) r left t ps'
-      tested-sound = sound-given M v b r r q left t slot ps ps' gives (same-endpoints r) refl (ended-more r q left b slot fewer) (omega arith) (left-receives q id sound.receives) sound
+      tested-sound = sound-given M v b r r q left t slot ps ps' gives (same-endpoints r) refl (λ are. are) (ended-more r q left b slot fewer) (omega arith) (left-receives q id sound.receives) sound

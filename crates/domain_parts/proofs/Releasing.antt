@@ -26,17 +26,20 @@ use Rattle.request_set.specs.Requests.{Requests}
 use Rattle.domain_parts.specs.AllMoved.{moves_at}
 use Rattle.domain_parts.specs.CallSteps.{Means, call_steps, if_some}
 use Rattle.domain_parts.specs.GivingBack.{AreOutAt, GivesBack}
-use Rattle.domain_parts.specs.InBook.{frames_at, packet_in}
+use Rattle.domain_parts.specs.InBook.{frames_at, open_parts, packet_in}
 use Rattle.domain_parts.specs.InPlaces.{IsLentAs, is_misplaced, is_same, lent_item, one_if, slots_of, times_in, times_waiting}
 use Rattle.domain_parts.specs.InRequests.{handed_slots}
 use Rattle.domain_parts.specs.Parts.{Parts, Sound, plain, state_of}
-use Rattle.domain_parts.specs.Records.{Records, all_waiting, lent_slots, without_lent_at}
+use Rattle.domain_parts.specs.Peers.{held_in, peers_in}
+use Rattle.domain_parts.specs.Records.{Records, all_waiting, lent_slots, part_slots, without_lent_at}
+use Rattle.domain_parts.specs.Table.{PartRead}
 use Rattle.domain_parts.specs.Steps.{Step, all_moves, done, done_all, packet_released, without_frames}
 use Rattle.domain_parts.proofs.Ending.{ids_in}
 use Rattle.domain_parts.proofs.GivingLemmas.{All-at, all-stand, given-peers, gives-out, some-lane, sound-gave}
 use Rattle.domain_parts.proofs.Handed.{packets-stay, requests-stay}
 use Rattle.domain_parts.proofs.Leaving.{GivesUp, each-lent}
 use Rattle.domain_parts.proofs.Meaning.{one-gave}
+use Rattle.domain_parts.proofs.OpenParts.{open-stay, parts-stay}
 use Rattle.domain_parts.proofs.Placed.{HasMore, IsLane, Stands, in-place, lane-of, lent-nowhere, more-behind, stands-of, state-same, times-there}
 use Rattle.domain_parts.proofs.Placing.{lane-out, lane-same, out-changes, out-others, out-stands}
 use Rattle.domain_parts.proofs.Receives.{map-without}
@@ -93,10 +96,13 @@ module _ (p : Parts) (sound : Sound p) (i : ℕ) (id : PacketId) (there : slice_
     nowhere = lent-nowhere (slots_of r q) (lent_slots r) p.book st s (lent_slots r') less
 
     none-waiting : times_waiting s (all_waiting r.endpoints) ≡ 0
-    none-waiting = let none = nowhere.0 in omega (arith, none, times-all s (all_waiting r.endpoints) (handed_slots q.standing))
+    none-waiting = let none = nowhere.0 in omega (arith, none, times-all s (part_slots r.parts) (all_waiting r.endpoints) (handed_slots q.standing))
 
     none-handed : times_in s (handed_slots q.standing) ≡ 0
-    none-handed = let none = nowhere.0 in omega (arith, none, times-all s (all_waiting r.endpoints) (handed_slots q.standing))
+    none-handed = let none = nowhere.0 in omega (arith, none, times-all s (part_slots r.parts) (all_waiting r.endpoints) (handed_slots q.standing))
+
+    none-open : times_in s (part_slots r.parts) ≡ 0
+    none-open = let none = nowhere.0 in omega (arith, none, times-all s (part_slots r.parts) (all_waiting r.endpoints) (handed_slots q.standing))
 
     others : Others p.book b' s
     others = out-others (slots_of r q) (lent_slots r) (slots_of r q) (lent_slots r') p.book st s (Some id.serial) it.0 it.1 it.2
@@ -125,6 +131,7 @@ module _ (p : Parts) (sound : Sound p) (i : ℕ) (id : PacketId) (there : slice_
           each = in-place (lent_slots r') number o (slots_of r q) b' fs (now-stands st) (subst (λ (n : ℕ). IsLane n o b' fs) own (subst (IsLane s.peer o b') (append-nil fs) out));
           priorities = still-placed st places.priorities;
           lent = still-lent st;
+          parts = open-stay p.book b' s (others st) r.parts (none-open st) places.parts;
         };
     others = λ number o differ places.
         let st = stands-of (lent_slots r) number o (slots_of r q) p.book [] places.each in
@@ -132,6 +139,7 @@ module _ (p : Parts) (sound : Sound p) (i : ℕ) (id : PacketId) (there : slice_
           each = in-place (lent_slots r') number o (slots_of r q) b' [] (now-stands st) (lane-same number o p.book b' [] s (frames_of it.0) None (changes st) differ (lane-of (lent_slots r) number o (slots_of r q) p.book [] places.each));
           priorities = still-placed st places.priorities;
           lent = still-lent st;
+          parts = open-stay p.book b' s (others st) r.parts (none-open st) places.parts;
         };
   }
 
@@ -155,7 +163,8 @@ module _ (p : Parts) (sound : Sound p) (i : ℕ) (id : PacketId) (there : slice_
       ∙ ap (λ (rs : List state.Request). record (state_of now) { endpoints = u.endpoints; requests = rs }) (requests-stay p.book b' s (others st) q.standing (none-handed st))
       ∙ ap (λ (ls : List LentPacket). record (state_of now) { endpoints = u.endpoints; requests = u.requests; lent = ls }) (packets-stay p.book b' s (others st) r'.lent (nowhere st).1 ∙ map-without (packet_in p.book) (Some i) r.lent)
       ∙ ap (λ (n : ℕ). record (state_of now) { endpoints = u.endpoints; requests = u.requests; lent = lists.without (Some i) u.lent; packets_lent = n }) (without-lends p.book s (Some id.serial) fs)
-      ∙ ap (λ (ps : List state.Peer). record u { lent = lists.without (Some i) u.lent; peers = ps }) (given-peers Any plain s.peer fs p.peers now.peers back p.table)
+      ∙ ap (λ (os : List PartRead). record u { lent = lists.without (Some i) u.lent; peers = peers_in plain os p.table now.peers; held = held_in os }) (parts-stay p.book b' s (others st) r.parts (none-open st))
+      ∙ ap (λ (ps : List state.Peer). record u { lent = lists.without (Some i) u.lent; peers = ps }) (given-peers Any plain s.peer fs p.peers now.peers back (open_parts p.book r.parts) p.table)
 
   -- ---- the call
 

@@ -14,6 +14,8 @@ use Rattle.domain_parts.specs.declared.peer.Peer.{Peer}
 use Rattle.domain_parts.specs.AllMoved.{numbers_of}
 use Rattle.domain_parts.specs.InPlaces.{AreInPlaces}
 use Rattle.domain_parts.specs.Out.{out_of}
+use Rattle.domain_parts.specs.InBook.{open_parts}
+use Rattle.domain_parts.specs.Table.{PartRead}
 use Rattle.domain_parts.specs.Peers.{peer_in, state_in}
 use Rattle.domain_parts.specs.Records.{Records}
 use Rattle.domain_parts.specs.Sound.{AreRising, AreSound, IsSized, buffers_count}
@@ -81,12 +83,15 @@ module _ {L : Type 0} (v : L → LaneSeen) (b : Book) (r : Records) (q : Request
   abbrev after : List (Peer L)
   after = slice_set ps i (record p { ends = e })
 
+  abbrev os : List PartRead
+  os = open_parts b r.parts
+
   pub state-sent : (d : ℕ) → Some i ≡ position (λ (x : Peer L). x.number == d) ps → slice_get ps i ≡ Some p → (v e).free ≡ (v p.ends).free - 1 → (v e).shown ≡ (v p.ends).shown → (v e).size_from ≡ (v p.ends).size_from → state_in v b r q t after ≡ with_used old d
   state-sent d at there free shown size =
-      let was = peer_in v t p in
-      let is : peer_in v t (record p { ends = e }) ≡ used_one was
+      let was = peer_in v os t p in
+      let is : peer_in v os t (record p { ends = e }) ≡ used_one was
       = ap (λ (n : ℕ). record was { size = n; free = (v e).free; shown = (v e).shown }) size
       ∙ ap (λ (n : ℕ). record was { free = n; shown = (v e).shown }) free
       ∙ ap (λ (n : ℕ). record (used_one was) { shown = n }) shown in
-      ap (λ (xs : List state.Peer). record old { peers = xs }) (changed-map (peer_in v t) used_one ps i p (record p { ends = e }) there is)
+      ap (λ (xs : List state.Peer). record old { peers = xs }) (changed-map (peer_in v os t) used_one ps i p (record p { ends = e }) there is)
       ∙ ap (λ (o : Option ℕ). record old { peers = changed used_one o old.peers }) (at ∙ place-in v b r q t ps d)

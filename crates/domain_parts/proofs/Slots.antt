@@ -15,25 +15,28 @@ use Rattle.domain_parts.proofs.Placed.{HasMore, HaveSame, no-one}
 abbrev pub slots : List Waiting → List Slot
 slots ws = map (λ (w : Waiting). w.slot) ws
 
--- how many of them pass a test: of what waits, and of what was handed
-pub count-all : (test : Slot → Bool) (ws : List Waiting) (hs : List Slot) → count_by test (slots ws ++ hs) ≡ count_by (λ (w : Waiting). test w.slot) ws + count_by test hs
-count-all test ws hs = count-append test (slots ws) hs ∙ ap (λ (k : ℕ). k + count_by test hs) (count-map test (λ (w : Waiting). w.slot) ws)
+-- how many of them pass a test: of the slots of open parts, of what waits, and of what was handed
+pub count-all : (test : Slot → Bool) (os : List Slot) (ws : List Waiting) (hs : List Slot) → count_by test (os ++ (slots ws ++ hs)) ≡ count_by test os + (count_by (λ (w : Waiting). test w.slot) ws + count_by test hs)
+count-all test os ws hs = count-append test os (slots ws ++ hs) ∙ ap (λ (k : ℕ). count_by test os + k) (count-append test (slots ws) hs ∙ ap (λ (k : ℕ). k + count_by test hs) (count-map test (λ (w : Waiting). w.slot) ws))
 
-pub times-all : (s : Slot) (ws : List Waiting) (hs : List Slot) → times_in s (slots ws ++ hs) ≡ times_waiting s ws + times_in s hs
-times-all s ws hs = count-all (λ (t : Slot). is_same t s) ws hs
+pub times-all : (s : Slot) (os : List Slot) (ws : List Waiting) (hs : List Slot) → times_in s (os ++ (slots ws ++ hs)) ≡ times_in s os + (times_waiting s ws + times_in s hs)
+times-all s os ws hs = count-all (λ (t : Slot). is_same t s) os ws hs
 
-pub length-all : (ws : List Waiting) (hs : List Slot) → length (slots ws ++ hs) ≡ length ws + length hs
-length-all ws hs = length-append (slots ws) hs ∙ ap (λ (k : ℕ). k + length hs) (length-map ws (λ (w : Waiting). w.slot))
+pub length-all : (os : List Slot) (ws : List Waiting) (hs : List Slot) → length (os ++ (slots ws ++ hs)) ≡ length os + (length ws + length hs)
+length-all os ws hs = length-append os (slots ws ++ hs) ∙ ap (λ (k : ℕ). length os + k) (length-append (slots ws) hs ∙ ap (λ (k : ℕ). k + length hs) (length-map ws (λ (w : Waiting). w.slot)))
 
--- one more waits, or was handed
-pub waiting-has : (w : Waiting) (ws vs : List Waiting) (hs : List Slot) → ((test : Waiting → Bool) → count_by test vs ≡ count_by test ws + one_if (test w)) → HasMore w.slot (slots ws ++ hs) (slots vs ++ hs)
-waiting-has w ws vs hs more test = let m = more (λ (x : Waiting). test x.slot) in omega (arith, m, count-all test ws hs, count-all test vs hs)
+-- one more waits, or was handed, or is open
+pub waiting-has : (w : Waiting) (os : List Slot) (ws vs : List Waiting) (hs : List Slot) → ((test : Waiting → Bool) → count_by test vs ≡ count_by test ws + one_if (test w)) → HasMore w.slot (os ++ (slots ws ++ hs)) (os ++ (slots vs ++ hs))
+waiting-has w os ws vs hs more test = let m = more (λ (x : Waiting). test x.slot) in omega (arith, m, count-all test os ws hs, count-all test os vs hs)
 
-pub handed-has : (s : Slot) (ws : List Waiting) (hs gs : List Slot) → HasMore s hs gs → HasMore s (slots ws ++ hs) (slots ws ++ gs)
-handed-has s ws hs gs more test = let m = more test in omega (arith, m, count-all test ws hs, count-all test ws gs)
+pub handed-has : (s : Slot) (os : List Slot) (ws : List Waiting) (hs gs : List Slot) → HasMore s hs gs → HasMore s (os ++ (slots ws ++ hs)) (os ++ (slots ws ++ gs))
+handed-has s os ws hs gs more test = let m = more test in omega (arith, m, count-all test os ws hs, count-all test os ws gs)
 
-pub handed-same : (ws : List Waiting) (hs gs : List Slot) → HaveSame hs gs → HaveSame (slots ws ++ hs) (slots ws ++ gs)
-handed-same ws hs gs same test = let m = same test in omega (arith, m, count-all test ws hs, count-all test ws gs)
+pub handed-same : (os : List Slot) (ws : List Waiting) (hs gs : List Slot) → HaveSame hs gs → HaveSame (os ++ (slots ws ++ hs)) (os ++ (slots ws ++ gs))
+handed-same os ws hs gs same test = let m = same test in omega (arith, m, count-all test os ws hs, count-all test os ws gs)
+
+pub open-has : (s : Slot) (os vs : List Slot) (ws : List Waiting) (hs : List Slot) → HasMore s os vs → HasMore s (os ++ (slots ws ++ hs)) (vs ++ (slots ws ++ hs))
+open-has s os vs ws hs more test = let m = more test in omega (arith, m, count-all test os ws hs, count-all test vs ws hs)
 
 -- as many as all
 pub length-more : (s : Slot) (ss ts : List Slot) → HasMore s ss ts → length ts ≡ length ss + 1

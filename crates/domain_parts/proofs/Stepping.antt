@@ -18,6 +18,8 @@ use Rattle.buffer_book.specs.Book.{Book}
 use Rattle.endpoint_table.specs.Table as endpoint_table
 use Rattle.request_set.specs.Requests.{Requests}
 use Rattle.domain_parts.specs.Records.{Records}
+use Rattle.domain_parts.specs.InBook.{open_parts}
+use Rattle.domain_parts.specs.Table.{PartRead}
 use Rattle.domain_parts.specs.Peers.{peer_in, peers_in, state_in}
 use Rattle.domain_parts.specs.Sound.{AreRising, AreSound}
 use Rattle.domain_parts.specs.CallSteps.{Acted, Acts, Succeeds}
@@ -83,12 +85,12 @@ module _ {L : Type 0} (v : L → LaneSeen) where
   seen-numbers (p ∷ ps) = ap (λ ns. p.number ∷ ns) (seen-numbers ps)
 
   -- the state is that of what is seen
-  peers-seen : (t : endpoint_table.Table) (ps : List (Peer L)) → peers_in plain t (peers_seen v ps) ≡ peers_in v t ps
-  peers-seen t [] = refl
-  peers-seen t (p ∷ ps) = ap (λ xs. peer_in v t p ∷ xs) (peers-seen t ps)
+  peers-seen : (os : List PartRead) (t : endpoint_table.Table) (ps : List (Peer L)) → peers_in plain os t (peers_seen v ps) ≡ peers_in v os t ps
+  peers-seen os t [] = refl
+  peers-seen os t (p ∷ ps) = ap (λ xs. peer_in v os t p ∷ xs) (peers-seen os t ps)
 
   pub state-seen : (b : Book) (r : Records) (q : Requests) (t : endpoint_table.Table) (ps : List (Peer L)) → state_in v b r q t ps ≡ state_of (parts_in v b r q t ps)
-  state-seen b r q t ps = ap (λ (xs : List state.Peer). record (state_in v b r q t ps) { peers = xs }) (sym (peers-seen t ps))
+  state-seen b r q t ps = ap (λ (xs : List state.Peer). record (state_in v b r q t ps) { peers = xs }) (sym (peers-seen (open_parts b r.parts) t ps))
 
   -- they keep what they must as they are seen, and so they do
   outlines : (ps : List (Peer L)) → map (outline plain) (peers_seen v ps) ≡ map (outline v) ps

@@ -59,7 +59,7 @@ module _ (p : Parts) (sound : Sound p) (i : ℕ) (w : Waiting) (is : best (λ (x
 
   pub best_dropped-is : (at : Local) → Some i ≡ place_at (state_of p) at → state_of (done (best_dropped i w.slot fs) p) ≡ with_received (state_of p) at
   best_dropped-is at there =
-      given-state Any (λ l. tt) plain p.book p.records (with_best_taken_at p.records i) p.requests p.requests p.table w.slot p.peers _ back (received-more p.records p.requests p.book i w is) sound.places refl refl refl
+      given-state Any (λ l. tt) plain p.book p.records (with_best_taken_at p.records i) p.requests p.requests p.table w.slot p.peers _ back (received-more p.records p.requests p.book i w is) sound.places refl refl refl refl
       ∙ ap (λ (es : List state.Endpoint). record (state_of p) { endpoints = es }) (best-taken plain p.book p.records p.requests p.table p.peers sound i w is at there)
 
   -- the steps of the call, what it answers, and that it is not refused

@@ -23,10 +23,10 @@ use Rattle.domain_parts.specs.declared.endpoints.Endpoint.{Endpoint}
 use Rattle.domain_parts.specs.declared.peer.Peer.{Peer}
 use Rattle.domain_parts.specs.declared.requests.Waiters.TheVariants as waiters
 use Rattle.domain_parts.specs.AllMoved.{numbers_of}
-use Rattle.domain_parts.specs.InBook.{endpoint_in, endpoints_in, requests_in, packets_in}
+use Rattle.domain_parts.specs.InBook.{endpoint_in, endpoints_in, requests_in, packets_in, open_parts}
 use Rattle.domain_parts.specs.InRequests.{with_all_complete}
 use Rattle.domain_parts.specs.Owed.{owed_by}
-use Rattle.domain_parts.specs.Peers.{announcement_in, ended_in, peer_in, peers_in, state_in, reply_in}
+use Rattle.domain_parts.specs.Peers.{announcement_in, ended_in, peer_in, peers_in, state_in, reply_in, held_in, part_from}
 use Rattle.domain_parts.specs.Records.{Records, new_record, with_record}
 use Rattle.domain_parts.specs.Sound.{AreRising}
 use Rattle.domain_parts.specs.Tied.{AreTied, linked_among}
@@ -35,6 +35,7 @@ use Rattle.domain_parts.proofs.Filters.{some-map}
 use Rattle.domain_parts.proofs.PaidTables.{filter-same}
 use Rattle.domain_parts.proofs.PeersAt.{any-owed, owed-ends}
 use Rattle.domain_parts.proofs.Tying.{ended-created, ended-gone, ended_table, gone_event, made_event, tied-created, tied-ended}
+use Rattle.domain_parts.specs.Table.{PartRead}
 
 -- ---- which peers are linked
 
@@ -78,9 +79,9 @@ each-there (n ∷ ns) = (
 
 -- ---- all linked domains are owed one announcement more
 
-module _ {L : Type 0} (v : L → LaneSeen) (t t' : Table) (a : Announced) (number : ℕ) (ns : List ℕ) (owing : t'.owing ≡ map (also_owing a) t.owing) (linked : map (λ (o : Owing). o.peer) t.owing ≡ linked_among number ns) where
+module _ {L : Type 0} (v : L → LaneSeen) (os : List PartRead) (t t' : Table) (a : Announced) (number : ℕ) (ns : List ℕ) (owing : t'.owing ≡ map (also_owing a) t.owing) (linked : map (λ (o : Owing). o.peer) t.owing ≡ linked_among number ns) where
   abbrev with_owed : Peer L → Option Owing → state.Peer
-  with_owed p o = record { number = p.number; size = (v p.ends).size_from; free = (v p.ends).free; shown = (v p.ends).shown; announcements = map announcement_in (owed_by o); replies = map reply_in p.replies; known = p.known; part = None }
+  with_owed p o = record { number = p.number; size = (v p.ends).size_from; free = (v p.ends).free; shown = (v p.ends).shown; announcements = map announcement_in (owed_by o); replies = map reply_in p.replies; known = p.known; part = part_from os p.number }
 
   one-more : (p : Peer L) (o : Option Owing) (b : Bool) → is_some o ≡ not b → with_owed p (option_map (also_owing a) o) ≡ cond b (with_owed p o) (record (with_owed p o) { announcements = map announcement_in (owed_by o) ++ announcement_in a ∷ [] })
   one-more p None true is = refl
@@ -88,7 +89,7 @@ module _ {L : Type 0} (v : L → LaneSeen) (t t' : Table) (a : Announced) (numbe
   one-more p (Some o) true is = absurd cc
   one-more p (Some o) false is = ap (λ (xs : List state.Announcement). record (with_owed p (Some o)) { announcements = xs }) (map_push announcement_in o.owed a)
 
-  one-also : (p : Peer L) → list_any (λ m. m == p.number) ns ≡ true → peer_in v t' p ≡ also_owed number (announcement_in a) (peer_in v t p)
+  one-also : (p : Peer L) → list_any (λ m. m == p.number) ns ≡ true → peer_in v os t' p ≡ also_owed number (announcement_in a) (peer_in v os t p)
   one-also p there =
       let n = p.number in
       let test : Owing → Bool = λ o. o.peer == n in
@@ -96,31 +97,34 @@ module _ {L : Type 0} (v : L → LaneSeen) (t t' : Table) (a : Announced) (numbe
       sym (some-map (λ (o : Owing). o.peer) (find test t.owing))
       ∙ ap (λ (o : Option ℕ). is_some o) (sym (find-mapped (λ m. m == n) (λ (o : Owing). o.peer) t.owing) ∙ ap (find (λ m. m == n)) linked)
       ∙ linked-some number n ns there in
-      ap (λ (os : List Owing). with_owed p (find test os)) owing
+      ap (λ (xs : List Owing). with_owed p (find test xs)) owing
       ∙ ap (with_owed p) (find-kept test (also_owing a) (λ o. refl) t.owing)
       ∙ one-more p (find test t.owing) (n == number) some
 
-  all-also : (ps : List (Peer L)) → AllByRecursion (λ n. list_any (λ m. m == n) ns ≡ true) (numbers_of ps) → peers_in v t' ps ≡ map (also_owed number (announcement_in a)) (peers_in v t ps)
+  all-also : (ps : List (Peer L)) → AllByRecursion (λ n. list_any (λ m. m == n) ns ≡ true) (numbers_of ps) → peers_in v os t' ps ≡ map (also_owed number (announcement_in a)) (peers_in v os t ps)
   all-also [] there = refl
   all-also (p ∷ ps) there =
-      ap (λ (x : state.Peer). x ∷ peers_in v t' ps) (one-also p there.0)
-      ∙ ap (λ (xs : List state.Peer). also_owed number (announcement_in a) (peer_in v t p) ∷ xs) (all-also ps there.1)
+      ap (λ (x : state.Peer). x ∷ peers_in v os t' ps) (one-also p there.0)
+      ∙ ap (λ (xs : List state.Peer). also_owed number (announcement_in a) (peer_in v os t p) ∷ xs) (all-also ps there.1)
 
 module _ {L : Type 0} (v : L → LaneSeen) (b b' : Book) (r : Records) (q q' : Requests) (t : Table) (ps ps' : List (Peer L)) (rising : AreRising (numbers_of ps)) (tie : AreTied r t (numbers_of ps)) where
   abbrev s : DomainState
   s = state_in v b r q t ps
 
+  abbrev os : List PartRead
+  os = open_parts b r.parts
+
   linked-here : map (λ (o : Owing). o.peer) t.owing ≡ linked_among t.domain (numbers_of ps)
   linked-here = tie.linked ∙ ap (λ (n : ℕ). linked_among n (numbers_of ps)) (sym tie.domain)
 
-  also : (t' : Table) (a : Announced) → t'.owing ≡ map (also_owing a) t.owing → peers_in v t' ps ≡ map (also_owed t.domain (announcement_in a)) s.peers
-  also t' a owing = all-also v t t' a t.domain (numbers_of ps) owing linked-here ps (each-there (numbers_of ps))
+  also : (t' : Table) (a : Announced) → t'.owing ≡ map (also_owing a) t.owing → peers_in v os t' ps ≡ map (also_owed t.domain (announcement_in a)) s.peers
+  also t' a owing = all-also v os t t' a t.domain (numbers_of ps) owing linked-here ps (each-there (numbers_of ps))
 
   -- who is still to be told of which ends
   told-ends : (t' : Table) (a : Announced) (number : ℕ) → t'.owing ≡ map (also_owing a) t.owing → map (λ (o : Owing). o.peer) t'.owing ≡ linked_among number (numbers_of ps) → (x : ℕ) → list_any (owes_gone x) t'.owing ≡ is_owed_end (map (also_owed t.domain (announcement_in a)) s.peers) x
   told-ends t' a number owing linked x =
       sym (any-owed x number (numbers_of ps) t'.owing linked rising)
-      ∙ sym (owed-ends v t' x ps)
+      ∙ sym (owed-ends v os t' x ps)
       ∙ ap (λ (xs : List state.Peer). is_owed_end xs x) (also t' a owing)
 
   -- an endpoint is made
@@ -138,16 +142,16 @@ module _ {L : Type 0} (v : L → LaneSeen) (b b' : Book) (r : Records) (q q' : R
       let gone : ended_in t'.records ≡ filter (is_owed_end peers) s.ended =
       ended-created r t (numbers_of ps) at tie
       ∙ filter-same (λ x. list_any (owes_gone x) t'.owing) (is_owed_end peers) (told-ends t' a r.number refl (tied-created r t (numbers_of ps) at tie).linked) s.ended in
-      ap (λ (es : List state.Endpoint). made es (ended_in t'.records) (peers_in v t' ps) rs) endpoints
-      ∙ ap (λ (ns : List ℕ). made (s.endpoints ++ new ∷ []) ns (peers_in v t' ps) rs) gone
+      ap (λ (es : List state.Endpoint). made es (ended_in t'.records) (peers_in v os t' ps) rs) endpoints
+      ∙ ap (λ (ns : List ℕ). made (s.endpoints ++ new ∷ []) ns (peers_in v os t' ps) rs) gone
       ∙ ap (λ (xs : List state.Peer). made (s.endpoints ++ new ∷ []) (filter (is_owed_end peers) s.ended) xs rs) (also t' a refl)
       ∙ ap (λ (xs : List state.Request). made (s.endpoints ++ new ∷ []) (filter (is_owed_end peers) s.ended) peers xs) (requests-found b (end_name t.domain at) (1024 + t.given) q.standing)
 
   -- an endpoint is ended
   pub ended-state : (r' : Records) (at : Local) (i : ℕ) (e : Endpoint) → slice_get r.endpoints i ≡ Some e → e.local ≡ at
-      → endpoints_in b' r'.endpoints ≡ without (place_at s at) s.endpoints → requests_in b' q'.standing ≡ map (ended_by_word EndpInvalid at) s.requests → q'.given ≡ q.given → r'.channels ≡ r.channels → packets_in b' r'.lent ≡ packets_in b r.lent → b'.lends ≡ b.lends → peers_in v (ended_table t e) ps' ≡ peers_in v (ended_table t e) ps
+      → endpoints_in b' r'.endpoints ≡ without (place_at s at) s.endpoints → requests_in b' q'.standing ≡ map (ended_by_word EndpInvalid at) s.requests → q'.given ≡ q.given → r'.channels ≡ r.channels → packets_in b' r'.lent ≡ packets_in b r.lent → b'.lends ≡ b.lends → open_parts b' r'.parts ≡ os → peers_in v os (ended_table t e) ps' ≡ peers_in v os (ended_table t e) ps
       → state_in v b' r' q' (ended_table t e) ps' ≡ without_endpoint s at e.address
-  ended-state r' at i e there local endpoints requests given numbered packets lends peers =
+  ended-state r' at i e there local endpoints requests given numbered packets lends opens peers =
       let t' = ended_table t e in
       let a = gone_event e in
       let left : List state.Endpoint → List ℕ → List state.Peer → List state.Request → ℕ → DomainState = λ es gone xs rs n. record s { endpoints = es; ended = gone; peers = xs; requests = rs; requests_given = n } in
@@ -157,11 +161,12 @@ module _ {L : Type 0} (v : L → LaneSeen) (b b' : Book) (r : Records) (q q' : R
       let gone : ended_in t'.records ≡ filter (is_owed_end owed) (with_rising e.address s.ended) =
       ended-gone r t (numbers_of ps) i e tie there
       ∙ filter-same (λ x. list_any (owes_gone x) t'.owing) (is_owed_end owed) (told-ends t' a r.number refl (tied-ended r t (numbers_of ps) i e tie there).linked) (with_rising e.address s.ended) in
-      ap (λ (n : ℕ). record (state_in v b' r' q' t' ps') { channels_given = n }) numbered
-      ∙ ap (λ (ls : List state.LentPacket). record (state_in v b' r' q' t' ps') { channels_given = r.channels; lent = ls }) packets
-      ∙ ap (λ (n : ℕ). record (state_in v b' r' q' t' ps') { channels_given = r.channels; lent = packets_in b r.lent; packets_lent = n }) lends
-      ∙ ap (λ (xs : List state.Endpoint). left xs (ended_in t'.records) (peers_in v t' ps') (requests_in b' q'.standing) q'.given) endpoints
-      ∙ ap (λ (ns : List ℕ). left es ns (peers_in v t' ps') (requests_in b' q'.standing) q'.given) gone
+      ap (λ (xs : List PartRead). record (state_in v b' r' q' t' ps') { peers = peers_in v xs t' ps'; held = held_in xs }) opens
+      ∙ ap (λ (n : ℕ). record (state_in v b' r' q' t' ps') { peers = peers_in v os t' ps'; held = held_in os; channels_given = n }) numbered
+      ∙ ap (λ (ls : List state.LentPacket). record (state_in v b' r' q' t' ps') { peers = peers_in v os t' ps'; held = held_in os; channels_given = r.channels; lent = ls }) packets
+      ∙ ap (λ (n : ℕ). record (state_in v b' r' q' t' ps') { peers = peers_in v os t' ps'; held = held_in os; channels_given = r.channels; lent = packets_in b r.lent; packets_lent = n }) lends
+      ∙ ap (λ (xs : List state.Endpoint). left xs (ended_in t'.records) (peers_in v os t' ps') (requests_in b' q'.standing) q'.given) endpoints
+      ∙ ap (λ (ns : List ℕ). left es ns (peers_in v os t' ps') (requests_in b' q'.standing) q'.given) gone
       ∙ ap (λ (xs : List state.Peer). left es (filter (is_owed_end owed) (with_rising e.address s.ended)) xs (requests_in b' q'.standing) q'.given) (peers ∙ also t' a refl)
       ∙ ap (λ (xs : List state.Request). left es (filter (is_owed_end owed) (with_rising e.address s.ended)) owed xs q'.given) requests
       ∙ ap (λ (n : ℕ). left es (filter (is_owed_end owed) (with_rising e.address s.ended)) owed rs n) given

@@ -52,6 +52,7 @@ use Rattle.domain_parts.proofs.PeersAt.{all-set}
 use Rattle.domain_parts.proofs.Queuing.{handed-others, handed-places, handed-receives, queued-others, queued-places, same-held}
 use Rattle.domain_parts.proofs.Sending.{Outline, outline, same-sound}
 use Rattle.domain_parts.proofs.Stepping.{moved-numbers, quiet-peers, set-is-map}
+use Rattle.mc_base.specs.Limits.{item_size}
 
 -- ---- a move that changes no outline
 
@@ -114,7 +115,7 @@ module _ (p : Parts) (who : Waiters) (how : Complete) (ends : MayEnd who how) (s
       subst (λ (ps : List (Peer LaneSeen)). Sound (record p { requests = q'; peers = ps })) (sym (quiet-peers p.peers))
       (record {
         peers = sound.peers;
-        places = All-from (λ x. AreInPlaces x.number p.records p.requests p.book (out_at plain x)) (λ x. AreInPlaces x.number p.records q' p.book (out_at plain x)) (λ x placed. same-held p.records p.records p.requests q' p.book x.number (out_at plain x) refl refl handed placed) p.peers sound.places;
+        places = All-from (λ x. AreInPlaces x.number p.records p.requests p.book (out_at plain x)) (λ x. AreInPlaces x.number p.records q' p.book (out_at plain x)) (λ x placed. same-held p.records p.records p.requests q' p.book x.number (out_at plain x) refl refl refl handed placed) p.peers sound.places;
         shelves = sound.shelves;
         room = sound.room;
         receives = receives-all p.requests who how ends sound.receives;
@@ -144,12 +145,12 @@ waiting_set c zero (e ∷ es) = refl
 waiting_set c (suc j) (e ∷ es) = ap (λ ws. e.queue.waiting ++ ws) (waiting_set c j es)
 
 -- other endpoints, at which the same waits
-pub records-keep : (p : Parts) (r : Records) → SameEndpoints p.records r → r.lent ≡ p.records.lent → all_waiting r.endpoints ≡ all_waiting p.records.endpoints → Sound p → Sound (record p { records = r; peers = map (moved_peer (λ n. [])) p.peers })
-records-keep p r same lends waits sound =
+pub records-keep : (p : Parts) (r : Records) → SameEndpoints p.records r → r.lent ≡ p.records.lent → r.parts ≡ p.records.parts → all_waiting r.endpoints ≡ all_waiting p.records.endpoints → Sound p → Sound (record p { records = r; peers = map (moved_peer (λ n. [])) p.peers })
+records-keep p r same lends opens waits sound =
     subst (λ (ps : List (Peer LaneSeen)). Sound (record p { records = r; peers = ps })) (sym (quiet-peers p.peers))
     (record {
       peers = subst (λ (k : ℕ). ArePeers plain k p.peers) (sym same.number) sound.peers;
-      places = All-from (λ x. AreInPlaces x.number p.records p.requests p.book (out_at plain x)) (λ x. AreInPlaces x.number r p.requests p.book (out_at plain x)) (λ x placed. same-held p.records r p.requests p.requests p.book x.number (out_at plain x) lends waits refl placed) p.peers sound.places;
+      places = All-from (λ x. AreInPlaces x.number p.records p.requests p.book (out_at plain x)) (λ x. AreInPlaces x.number r p.requests p.book (out_at plain x)) (λ x placed. same-held p.records r p.requests p.requests p.book x.number (out_at plain x) lends opens waits refl placed) p.peers sound.places;
       shelves = sound.shelves;
       room = let room = sound.room in let room_same = same.room in omega (arith, room, room_same);
       receives = sound.receives;
@@ -158,10 +159,10 @@ records-keep p r same lends waits sound =
     })
 
 pub channel_set-keeps : (p : Parts) (j : ℕ) (c : Option Channel) → Sound p → Sound (done (channel_set j c) p)
-channel_set-keeps p j c sound = records-keep p (with_channel_at p.records j c) (record { number = refl; given = refl; room = refl; live = live_set c j p.records.endpoints }) refl (waiting_set c j p.records.endpoints) sound
+channel_set-keeps p j c sound = records-keep p (with_channel_at p.records j c) (record { number = refl; given = refl; room = refl; live = live_set c j p.records.endpoints }) refl refl (waiting_set c j p.records.endpoints) sound
 
 pub channel_given-keeps : (p : Parts) → Sound p → Sound (done channel_given p)
-channel_given-keeps p sound = records-keep p (with_channel_given p.records) (record { number = refl; given = refl; room = refl; live = refl }) refl refl sound
+channel_given-keeps p sound = records-keep p (with_channel_given p.records) (record { number = refl; given = refl; room = refl; live = refl }) refl refl refl sound
 
 -- ---- a frame is taken from the peer at a place
 
@@ -262,7 +263,7 @@ pub waiting-same : (r : Records) (j : ℕ) (w : Waiting) → SameEndpoints r (wi
 waiting-same r j w = record { number = refl; given = refl; room = refl; live = live_more j w r.endpoints }
 
 module _ (p : Parts) (sound : Sound p) (i : ℕ) (x : Peer LaneSeen) (there : slice_get p.peers i ≡ Some x) (buffer : Stored) (len size : ℕ) (apart : AreApart x.ends.size_from (x.ends.out ++ buffer.number ∷ []))
-    (small : size ≤ 488) (fits : 24 + size ≤ length (take len buffer.bytes)) where
+    (small : size ≤ item_size) (fits : 24 + size ≤ length (take len buffer.bytes)) where
   abbrev placed_but : AreInPlacesBut buffer.number x.number p.records p.requests p.book (out_of x.ends.size_from (x.ends.out ++ buffer.number ∷ []))
   placed_but = but-one p sound i x there buffer.number apart
 

@@ -22,7 +22,7 @@ use Rattle.domain_parts.specs.Records.{Records, all_waiting}
 use Rattle.domain_parts.specs.Steps.{Did, Step, all_moves, at_peer, done, done_all, changed_peer, moved_peer, names_told, reply_owed, reply_put, step_moves, with_names, with_reply, with_reply_put}
 use Rattle.domain_parts.specs.InRequests.{handed_slots}
 use Rattle.domain_parts.proofs.CountsFrom as counts
-use Rattle.domain_parts.proofs.CountsFrom.{count-both, lent-is, queued-is}
+use Rattle.domain_parts.proofs.CountsFrom.{count-both, lent-is, queued-is, count-three}
 use Rattle.domain_parts.proofs.Slots.{slots}
 use Rattle.domain_parts.proofs.PeerPlaces.{All-from}
 use Rattle.domain_parts.proofs.Stepping.{did-then, done-numbers, moves-append, one-moved, one-seen}
@@ -200,9 +200,9 @@ pub held-out : (p : Parts) → Sound p → (i : ℕ) (x : Peer LaneSeen) → sli
 held-out p sound i x there =
     let queued = queued-is plain p.book p.records p.requests p.table p.peers x.number in
     let lent = lent-is plain p.book p.records p.requests p.table p.peers x.number in
-    let both = count-both p.book x.number (slots (all_waiting p.records.endpoints)) (handed_slots p.requests.standing) in
+    let all = count-three plain p.book p.records p.requests p.table p.peers sound x.number in
     let held = counts.held-out plain p.book p.records p.requests p.table p.peers sound x.number i x there refl in
-    omega (arith, queued, lent, both, held)
+    omega (arith, queued, lent, all, held)
 
 few_rising : (k : ℕ) (ns : List ℕ) → k ≤ 8 → AllByRecursion (λ n. n ≤ 7) ns → AllByRecursion (λ n. k ≤ n) ns → AreRising ns → k + length ns ≤ 8
 few_rising k [] le few above rising = omega arith

@@ -17,7 +17,7 @@ use Rattle.domain_parts.specs.Doing.{Visits, ids_in}
 use Rattle.domain_parts.specs.DomainView.{DomainView}
 use Rattle.domain_parts.specs.LaneMoves.{LaneMove}
 use Rattle.domain_parts.specs.NumberedDeeds.{numbered_deeds, turn_deeds}
-use Rattle.domain_parts.specs.Parts.{Holding, Sound, plain, shown, state_of}
+use Rattle.domain_parts.specs.Parts.{Holding, Sound, plain, shown, state_of, parts_read}
 use Rattle.domain_parts.specs.Sound.{AreRising}
 use Rattle.domain_parts.specs.Steps.{Did, Step, all_moves, at_peer}
 use Rattle.domain_parts.specs.Turned.{HaveNumbers, VisitsAll, MakesTurn}
@@ -52,23 +52,29 @@ have-last (u ∷ vs) [] w ns all one = absurd all
 
 -- ---- the moves of visits at the peer of a number
 
-abbrev moves_in : List Visit → List (List ℕ) → ℕ → List LaneMove
-moves_in [] nss n = []
-moves_in (v ∷ vs) [] n = []
-moves_in (v ∷ vs) (ns ∷ nss) n = at_peer v.peer (visit_moves v ns) n ++ moves_in vs nss n
+abbrev moves_in : DomainState → List Visit → List (List ℕ) → ℕ → List LaneMove
+moves_in s [] nss n = []
+moves_in s (v ∷ vs) [] n = []
+moves_in s (v ∷ vs) (ns ∷ nss) n = at_peer v.peer (visit_moves s v ns) n ++ moves_in (after_deeds s (numbered_deeds v ns)) vs nss n
 
-moves-last : (vs : List Visit) (nss : List (List ℕ)) (w : Visit) (ns : List ℕ) (n : ℕ) → HaveNumbers vs nss → moves_in (vs ++ w ∷ []) (nss ++ ns ∷ []) n ≡ moves_in vs nss n ++ at_peer w.peer (visit_moves w ns) n
-moves-last [] [] w ns n all = append-nil (at_peer w.peer (visit_moves w ns) n)
-moves-last (u ∷ vs) (ms ∷ nss) w ns n all = ap (λ zs. at_peer u.peer (visit_moves u ms) n ++ zs) (moves-last vs nss w ns n all.1) ∙ sym (append_assoc (at_peer u.peer (visit_moves u ms) n) (moves_in vs nss n) (at_peer w.peer (visit_moves w ns) n))
-moves-last [] (ms ∷ nss) w ns n all = absurd all
-moves-last (u ∷ vs) [] w ns n all = absurd all
+moves-last : (s : DomainState) (vs : List Visit) (nss : List (List ℕ)) (w : Visit) (ns : List ℕ) (n : ℕ) → HaveNumbers vs nss → moves_in s (vs ++ w ∷ []) (nss ++ ns ∷ []) n ≡ moves_in s vs nss n ++ at_peer w.peer (visit_moves (after_deeds s (turn_deeds vs nss)) w ns) n
+moves-last s [] [] w ns n all = append-nil (at_peer w.peer (visit_moves s w ns) n)
+moves-last s (u ∷ vs) (ms ∷ nss) w ns n all =
+    let here = at_peer u.peer (visit_moves s u ms) n in
+    let now = after_deeds s (numbered_deeds u ms) in
+    ap (λ (zs : List LaneMove). here ++ zs) (moves-last now vs nss w ns n all.1)
+    ∙ sym (append_assoc here (moves_in now vs nss n) (at_peer w.peer (visit_moves (after_deeds now (turn_deeds vs nss)) w ns) n))
+    ∙ ap (λ (t : DomainState). (here ++ moves_in now vs nss n) ++ at_peer w.peer (visit_moves t w ns) n) (sym (after-join s (numbered_deeds u ms) (turn_deeds vs nss)))
+moves-last s [] (ms ∷ nss) w ns n all = absurd all
+moves-last s (u ∷ vs) [] w ns n all = absurd all
 
-moves-none : (vs : List Visit) (nss : List (List ℕ)) (n : ℕ) → AllByRecursion (λ m. n < m) (map (λ (v : Visit). v.peer) vs) → moves_in vs nss n ≡ []
-moves-none [] nss n above = refl
-moves-none (v ∷ vs) [] n above = refl
-moves-none (v ∷ vs) (ns ∷ nss) n above =
-    ap (λ (b : Bool). cond b (visit_moves v ns) [] ++ moves_in vs nss n) (ne_eqb v.peer n (λ e. let lt = above.0 in omega (arith, lt, e)))
-    ∙ moves-none vs nss n above.1
+moves-none : (s : DomainState) (vs : List Visit) (nss : List (List ℕ)) (n : ℕ) → AllByRecursion (λ m. n < m) (map (λ (v : Visit). v.peer) vs) → moves_in s vs nss n ≡ []
+moves-none s [] nss n above = refl
+moves-none s (v ∷ vs) [] n above = refl
+moves-none s (v ∷ vs) (ns ∷ nss) n above =
+    let now = after_deeds s (numbered_deeds v ns) in
+    ap (λ (b : Bool). cond b (visit_moves s v ns) [] ++ moves_in now vs nss n) (ne_eqb v.peer n (λ e. let lt = above.0 in omega (arith, lt, e)))
+    ∙ moves-none now vs nss n above.1
 
 maps-above : (k : ℕ) (ms : List LaneMove) (f : ℕ → List LaneMove) (ns : List ℕ) → AllByRecursion (λ m. k < m) ns → map (λ n. at_peer k ms n ++ f n) ns ≡ map f ns
 maps-above k ms f [] above = refl
@@ -77,21 +83,23 @@ maps-above k ms f (n ∷ ns) above =
     ∙ ap (λ (zs : List (List LaneMove)). f n ∷ zs) (maps-above k ms f ns above.1)
 
 -- each peer is visited once
-turn-moves-are : (vs : List Visit) (nss : List (List ℕ)) (ns : List ℕ) → HaveNumbers vs nss → map (λ (v : Visit). v.peer) vs ≡ ns → AreRising ns → map (moves_in vs nss) ns ≡ turn_moves vs nss
-turn-moves-are [] [] [] have each rising = refl
-turn-moves-are [] [] (n ∷ ns) have each rising = absurd cc
-turn-moves-are [] (ms ∷ nss) ns have each rising = absurd have
-turn-moves-are (v ∷ vs) [] ns have each rising = absurd have
-turn-moves-are (v ∷ vs) (ms ∷ nss) [] have each rising = absurd cc
-turn-moves-are (v ∷ vs) (ms ∷ nss) (n ∷ ns) have each rising =
+turn-moves-are : (s : DomainState) (vs : List Visit) (nss : List (List ℕ)) (ns : List ℕ) → HaveNumbers vs nss → map (λ (v : Visit). v.peer) vs ≡ ns → AreRising ns → map (moves_in s vs nss) ns ≡ turn_moves s vs nss
+turn-moves-are s [] [] [] have each rising = refl
+turn-moves-are s [] [] (n ∷ ns) have each rising = absurd cc
+turn-moves-are s [] (ms ∷ nss) ns have each rising = absurd have
+turn-moves-are s (v ∷ vs) [] ns have each rising = absurd have
+turn-moves-are s (v ∷ vs) (ms ∷ nss) [] have each rising = absurd cc
+turn-moves-are s (v ∷ vs) (ms ∷ nss) (n ∷ ns) have each rising =
+    let now = after_deeds s (numbered_deeds v ms) in
+    let moves = visit_moves s v ms in
     let peer : v.peer ≡ n = cc in
     let rest : map (λ (w : Visit). w.peer) vs ≡ ns = cc in
-    let none : moves_in vs nss n ≡ [] = moves-none vs nss n (subst (AllByRecursion (λ m. n < m)) (sym rest) rising.0) in
-    let here : at_peer v.peer (visit_moves v ms) n ++ moves_in vs nss n ≡ visit_moves v ms =
-    ap (λ (b : Bool). cond b (visit_moves v ms) [] ++ moves_in vs nss n) (eq-eqb v.peer n peer) ∙ ap (λ (zs : List LaneMove). visit_moves v ms ++ zs) none ∙ append-nil (visit_moves v ms) in
-    let later : map (moves_in (v ∷ vs) (ms ∷ nss)) ns ≡ map (moves_in vs nss) ns = maps-above v.peer (visit_moves v ms) (moves_in vs nss) ns (subst (λ (k : ℕ). AllByRecursion (λ m. k < m) ns) (sym peer) rising.0) in
-    ap (λ (z : List LaneMove). z ∷ map (moves_in (v ∷ vs) (ms ∷ nss)) ns) here
-    ∙ ap (λ (zs : List (List LaneMove)). visit_moves v ms ∷ zs) (later ∙ turn-moves-are vs nss ns have.1 rest rising.1)
+    let none : moves_in now vs nss n ≡ [] = moves-none now vs nss n (subst (AllByRecursion (λ m. n < m)) (sym rest) rising.0) in
+    let here : at_peer v.peer moves n ++ moves_in now vs nss n ≡ moves =
+    ap (λ (b : Bool). cond b moves [] ++ moves_in now vs nss n) (eq-eqb v.peer n peer) ∙ ap (λ (zs : List LaneMove). moves ++ zs) none ∙ append-nil moves in
+    let later : map (moves_in s (v ∷ vs) (ms ∷ nss)) ns ≡ map (moves_in now vs nss) ns = maps-above v.peer moves (moves_in now vs nss) ns (subst (λ (k : ℕ). AllByRecursion (λ m. k < m) ns) (sym peer) rising.0) in
+    ap (λ (z : List LaneMove). z ∷ map (moves_in s (v ∷ vs) (ms ∷ nss)) ns) here
+    ∙ ap (λ (zs : List (List LaneMove)). moves ∷ zs) (later ∙ turn-moves-are now vs nss ns have.1 rest rising.1)
 
 -- ---- the first peers were visited
 
@@ -116,7 +124,7 @@ pub record SoFar {L : Type 0} (M : L → List LaneMove → L → Type 0) (old no
   pub each : HaveNumbers visits numbers
   pub steps : List Step
   pub did : Did M steps old now
-  pub moves_are : (n : ℕ) → all_moves steps n ≡ moves_in visits numbers n
+  pub moves_are : (n : ℕ) → all_moves steps n ≡ moves_in (state_of old.parts) visits numbers n
   pub ids : ids_in now.parts ≡ ids_in old.parts
   pub packets : now.parts.records.lent ≡ old.parts.records.lent
   pub told : lines' ≡ lines ++ told_of_all false visits
@@ -166,7 +174,11 @@ module _ {L : Type 0} (M : L → List LaneMove → L → Type 0) (m-none : (l : 
         each = have-last vs so_far.numbers w made.numbers so_far.each made.each;
         steps = so_far.steps ++ made.doing.steps;
         did = did-then M m-both so_far.steps made.doing.steps old now new so_far.did made.doing.did;
-        moves_are = λ n. moves-append so_far.steps made.doing.steps n ∙ ap (λ zs. zs ++ all_moves made.doing.steps n) (so_far.moves_are n) ∙ ap (λ zs. moves_in vs so_far.numbers n ++ zs) (made.doing.moves_are n) ∙ sym (moves-last vs so_far.numbers w made.numbers n so_far.each);
+        moves_are = λ n.
+            moves-append so_far.steps made.doing.steps n
+            ∙ ap (λ zs. zs ++ all_moves made.doing.steps n) (so_far.moves_are n)
+            ∙ ap (λ zs. moves_in (state_of old.parts) vs so_far.numbers n ++ zs) (made.doing.moves_are n ∙ ap (λ (t : DomainState). at_peer w.peer (visit_moves t w made.numbers) n) so_far.numbered)
+            ∙ sym (moves-last (state_of old.parts) vs so_far.numbers w made.numbers n so_far.each);
         ids = made.doing.ids ∙ so_far.ids;
         packets = made.doing.packets ∙ so_far.packets;
         told =
@@ -192,11 +204,11 @@ module _ {L : Type 0} (M : L → List LaneMove → L → Type 0) (m-none : (l : 
         visits = so_far.visits;
         numbers = so_far.numbers;
         turns = record {
-          allowed = record { each_peer = each ∙ sym (numbers-in plain old.parts.table old.parts.peers); allowed = so_far.allowed };
+          allowed = record { each_peer = each ∙ sym (numbers-in plain (parts_read old.parts) old.parts.table old.parts.peers); allowed = so_far.allowed };
           state = sym so_far.state;
           numbered = so_far.numbered;
           each = so_far.each;
-          moved = subst (λ zs. AllMoved M old.ends zs now.ends) (same_maps (all_moves so_far.steps) (moves_in so_far.visits so_far.numbers) so_far.moves_are ns ∙ turn-moves-are so_far.visits so_far.numbers ns so_far.each each sound.peers.rising) so_far.did.moved;
+          moved = subst (λ zs. AllMoved M old.ends zs now.ends) (same_maps (all_moves so_far.steps) (moves_in (state_of old.parts) so_far.visits so_far.numbers) so_far.moves_are ns ∙ turn-moves-are (state_of old.parts) so_far.visits so_far.numbers ns so_far.each each sound.peers.rising) so_far.did.moved;
           ids = so_far.ids;
           packets = so_far.packets;
         };

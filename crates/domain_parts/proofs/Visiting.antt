@@ -4,13 +4,12 @@ use Rattle.std.specs.Prelude.{not, ◌&&◌, ◌||◌, ◌==◌, if◌then◌els
 use Rattle.std.proofs.lemmas.Bool.{and_parts, eqb-true, true≢false}
 use Rattle.std.proofs.lemmas.List.{append-nil, length_push, map-append, take_at, take_min}
 use Rattle.std.proofs.lemmas.Option.{slice_get-get_or}
-use Rattle.mc_base.specs.declared.fate.Fate.{Fate}
 use Rattle.lane_end.specs.SendMoves.{Looked}
-use Rattle.lane_end.specs.ReceiveMoves.{Gave, Took}
+use Rattle.lane_end.specs.ReceiveMoves.{Gave}
 use Rattle.lane_end.specs.ReceiveMoves as receiving
-use Rattle.board_model.specs.Dealing.{keeps_buffer}
 use Rattle.board_model.specs.Deeds.{Deed, after_deed, after_deeds, looks_ahead, looks_back, puts_owed, takes}
 use Rattle.board_model.specs.Journal.{Line, Visit, Taken, back_line, put_line, see_line, taken_line}
+use Rattle.board_model.specs.Returns.{given_by_frame}
 use Rattle.board_model.specs.State.{DomainState, held_from, is_numbered}
 use Rattle.board_model.specs.Turn.{takes_named}
 use Rattle.board_model.proofs.MessageLists.{get-position}
@@ -20,12 +19,12 @@ use Rattle.domain_parts.specs.CallSteps.{Rests}
 use Rattle.domain_parts.specs.Doing.{Doing, PutsDue, Takes, Visits, owed_at}
 use Rattle.domain_parts.specs.NumberedDeeds.{number_in}
 use Rattle.domain_parts.specs.LaneMoves.{LaneMove, sender, receiver}
-use Rattle.domain_parts.specs.LaneSeen.{LaneSeen, after_moves}
+use Rattle.domain_parts.specs.LaneSeen.{LaneSeen, after_move, after_moves}
 use Rattle.domain_parts.specs.Owed.{put_lines}
-use Rattle.domain_parts.specs.Parts.{Holding, Sound, nobody, peer_at, plain, state_of}
+use Rattle.domain_parts.specs.Parts.{Holding, Sound, nobody, peer_at, plain, state_of, parts_read}
 use Rattle.domain_parts.specs.Peers.{peer_in}
 use Rattle.domain_parts.specs.Sound.{IsSized}
-use Rattle.domain_parts.specs.VisitMoves.{giving_back, putting, taking}
+use Rattle.domain_parts.specs.VisitMoves.{before_takes, giving, putting, taking, taking_one}
 use Rattle.domain_parts.proofs.Owing.{free-put}
 use Rattle.domain_parts.proofs.PeerPlaces.{All-at}
 use Rattle.domain_parts.proofs.PeersAt.{find-place}
@@ -34,14 +33,6 @@ use Rattle.domain_parts.proofs.Unnaming.{visit-may}
 use Rattle.domain_parts.proofs.Turning.{did-numbers, doing-ends, doing-none, doing-then, same-length, same-number, seen-then}
 
 -- ---- frames, and one more
-
-taking_push : (ns : List ℕ) (ts : List Taken) (n : ℕ) (t : Taken) → length ns ≡ length ts → taking (ns ++ n ∷ []) (ts ++ t ∷ []) ≡ taking ns ts ++ taking (n ∷ []) (t ∷ [])
-taking_push [] [] n t same = refl
-taking_push [] (u ∷ ts) n t same = absurd (omega (arith, same))
-taking_push (m ∷ ns) [] n t same = absurd (omega (arith, same))
-taking_push (m ∷ ns) (u ∷ ts) n t same =
-    ap (λ (xs : List LaneMove). receiver (Took m u.frame) ∷ (giving_back m u.fate ++ xs)) (taking_push ns ts n t (omega (arith, same)))
-    ∙ ap (λ (xs : List LaneMove). receiver (Took m u.frame) ∷ xs) (sym (append_assoc (giving_back m u.fate) (taking ns ts) (taking (n ∷ []) (t ∷ []))))
 
 -- names that are the same at each place, and those behind the first number
 named_alike : (f g : ℕ → Option ℕ) → ((k : ℕ) → f k ≡ g k) → (peer : ℕ) (ts : List Taken) → takes_named f peer ts ≡ takes_named g peer ts
@@ -66,29 +57,38 @@ numbered_push peer (m ∷ ns) (u ∷ ts) n t same =
     ∙ numbered_push peer ns ts n t (omega (arith, same))
     ∙ ap (λ (ds : List Deed). ds ++ takes_named (number_in (n ∷ [])) peer (t ∷ [])) (sym (named_behind m ns peer ts)))
 
+taking_push : (s : DomainState) (peer : ℕ) (ns : List ℕ) (ts : List Taken) (n : ℕ) (t : Taken) → length ns ≡ length ts → taking s peer (ns ++ n ∷ []) (ts ++ t ∷ []) ≡ taking s peer ns ts ++ taking (after_deeds s (takes_named (number_in ns) peer ts)) peer (n ∷ []) (t ∷ [])
+taking_push s peer [] [] n t same = refl
+taking_push s peer [] (u ∷ ts) n t same = absurd (omega (arith, same))
+taking_push s peer (m ∷ ns) [] n t same = absurd (omega (arith, same))
+taking_push s peer (m ∷ ns) (u ∷ ts) n t same =
+    let now = after_deed s (takes peer (Some m) u.frame u.fate) in
+    ap (λ (xs : List LaneMove). taking_one s peer m u ++ xs)
+    (taking_push now peer ns ts n t (omega (arith, same)) ∙ ap (λ (ds : List Deed). taking now peer ns ts ++ taking (after_deeds now ds) peer (n ∷ []) (t ∷ [])) (sym (named_behind m ns peer ts)))
+    ∙ sym (append_assoc (taking_one s peer m u) (taking now peer ns ts) (taking (after_deeds now (takes_named (λ k. number_in (m ∷ ns) (k + 1)) peer ts)) peer (n ∷ []) (t ∷ [])))
+
 one_only : {X : Type 0} (xs : List X) → length xs ≡ 1 → (x : X) × (xs ≡ x ∷ [])
 one_only [] e = absurd (omega (arith, e))
 one_only (x ∷ []) e = (x, refl)
 one_only (x ∷ y ∷ xs) e = absurd (omega (arith, e))
 
 -- as many fewer are shown
-given_shown : (n : ℕ) (fate : Fate) (l : LaneSeen) → (after_moves (giving_back n fate) l).shown ≡ l.shown
-given_shown n fate l = go (keeps_buffer fate)
-  where
-    go : (b : Bool) → (after_moves (if b then [] else receiver (Gave n) ∷ []) l).shown ≡ l.shown
-    go true = refl
-    go false = refl
+given_shown : (gs : List ℕ) (l : LaneSeen) → (after_moves (giving gs) l).shown ≡ l.shown
+given_shown [] l = refl
+given_shown (g ∷ gs) l = given_shown gs (after_move (receiver (Gave g)) l)
 
-pub taken-shown : (ns : List ℕ) (ts : List Taken) (l : LaneSeen) → length ns ≡ length ts → (after_moves (taking ns ts) l).shown ≡ l.shown - length ts
-taken-shown [] [] l same = omega arith
-taken-shown [] (t ∷ ts) l same = absurd (omega (arith, same))
-taken-shown (n ∷ ns) [] l same = absurd (omega (arith, same))
-taken-shown (n ∷ ns) (t ∷ ts) l same =
+pub taken-shown : (s : DomainState) (peer : ℕ) (ns : List ℕ) (ts : List Taken) (l : LaneSeen) → length ns ≡ length ts → (after_moves (taking s peer ns ts) l).shown ≡ l.shown - length ts
+taken-shown s peer [] [] l same = omega arith
+taken-shown s peer [] (t ∷ ts) l same = absurd (omega (arith, same))
+taken-shown s peer (n ∷ ns) [] l same = absurd (omega (arith, same))
+taken-shown s peer (n ∷ ns) (t ∷ ts) l same =
     let took = record l { shown = l.shown - 1; out = l.out ++ n ∷ [] } in
-    let rest = taken-shown ns ts (after_moves (giving_back n t.fate) took) (omega (arith, same)) in
-    let split = ap (λ (x : LaneSeen). x.shown) (seen-then (giving_back n t.fate) (taking ns ts) took) in
-    let given = given_shown n t.fate took in
-    omega (arith, rest, split, given)
+    let given = given_by_frame s peer (Some n) t.frame t.fate in
+    let now = after_deed s (takes peer (Some n) t.frame t.fate) in
+    let rest = taken-shown now peer ns ts (after_moves (giving given) took) (omega (arith, same)) in
+    let split = ap (λ (x : LaneSeen). x.shown) (seen-then (giving given) (taking now peer ns ts) took) in
+    let stays = given_shown given took in
+    omega (arith, rest, split, stays)
 
 module _ {L : Type 0} (M : L → List LaneMove → L → Type 0) where
   pub Takes-none : (i : ℕ) (h : Holding L) (lines : List Line) → Rests M h → Takes M i 0 h h lines lines
@@ -105,19 +105,22 @@ module _ {L : Type 0} (M : L → List LaneMove → L → Type 0) where
       let ts = so_far.takes in
       let ns = so_far.numbers in
       let same : length ns ≡ length ts = so_far.each ∙ sym so_far.many in
-      let last : Doing M peer (takes_named (number_in (n ∷ [])) peer (t ∷ [])) (taking (n ∷ []) (t ∷ [])) b c =
-      subst (λ (xs : List ℕ). Doing M peer (takes_named (number_in xs) peer (t ∷ [])) (taking xs (t ∷ [])) b c) n1.1
-      (subst (λ (xs : List Taken). Doing M peer (takes_named (number_in one.numbers) peer xs) (taking one.numbers xs) b c) t1.1
-      (subst (λ (m : ℕ). Doing M m (takes_named (number_in one.numbers) m one.takes) (taking one.numbers one.takes) b c) same_peer one.doing)) in
+      let s = state_of a.parts in
+      let s' = after_deeds s (takes_named (number_in ns) peer ts) in
+      let last : Doing M peer (takes_named (number_in (n ∷ [])) peer (t ∷ [])) (taking s' peer (n ∷ []) (t ∷ [])) b c =
+      subst (λ (u : DomainState). Doing M peer (takes_named (number_in (n ∷ [])) peer (t ∷ [])) (taking u peer (n ∷ []) (t ∷ [])) b c) so_far.doing.state
+      (subst (λ (xs : List ℕ). Doing M peer (takes_named (number_in xs) peer (t ∷ [])) (taking (state_of b.parts) peer xs (t ∷ [])) b c) n1.1
+      (subst (λ (xs : List Taken). Doing M peer (takes_named (number_in one.numbers) peer xs) (taking (state_of b.parts) peer one.numbers xs) b c) t1.1
+      (subst (λ (m : ℕ). Doing M m (takes_named (number_in one.numbers) m one.takes) (taking (state_of b.parts) m one.numbers one.takes) b c) same_peer one.doing))) in
       let told : ls'' ≡ ls' ++ taken_line peer t ∷ [] = one.told ∙ ap (λ (m : ℕ). ls' ++ map (taken_line m) one.takes) same_peer ∙ ap (λ (xs : List Taken). ls' ++ map (taken_line peer) xs) t1.1 in
       record {
         takes = ts ++ t ∷ [];
         numbers = ns ++ n ∷ [];
         many = length_push ts t ∙ ap (λ (j : ℕ). j + 1) so_far.many;
         each = length_push ns n ∙ ap (λ (j : ℕ). j + 1) so_far.each;
-        doing = subst (λ (ds : List Deed). Doing M peer ds (taking (ns ++ n ∷ []) (ts ++ t ∷ [])) a c) (sym (numbered_push peer ns ts n t same))
-            (subst (λ (ms : List LaneMove). Doing M peer (takes_named (number_in ns) peer ts ++ takes_named (number_in (n ∷ [])) peer (t ∷ [])) ms a c) (sym (taking_push ns ts n t same))
-            (doing-then M both peer (takes_named (number_in ns) peer ts) (takes_named (number_in (n ∷ [])) peer (t ∷ [])) (taking ns ts) (taking (n ∷ []) (t ∷ [])) a b c so_far.doing last));
+        doing = subst (λ (ds : List Deed). Doing M peer ds (taking s peer (ns ++ n ∷ []) (ts ++ t ∷ [])) a c) (sym (numbered_push peer ns ts n t same))
+            (subst (λ (ms : List LaneMove). Doing M peer (takes_named (number_in ns) peer ts ++ takes_named (number_in (n ∷ [])) peer (t ∷ [])) ms a c) (sym (taking_push s peer ns ts n t same))
+            (doing-then M both peer (takes_named (number_in ns) peer ts) (takes_named (number_in (n ∷ [])) peer (t ∷ [])) (taking s peer ns ts) (taking s' peer (n ∷ []) (t ∷ [])) a b c so_far.doing last));
         told = told
             ∙ ap (λ (xs : List Line). xs ++ taken_line peer t ∷ []) so_far.told
             ∙ append_assoc ls (map (taken_line peer) ts) (taken_line peer t ∷ [])
@@ -235,11 +238,16 @@ module _ {L : Type 0} (M : L → List LaneMove → L → Type 0) (m-both : (a b 
       let puts : Doing M peer (map (puts_owed peer) fs) (putting fs) b c = subst (λ (n : ℕ). Doing M n (map (puts_owed n) fs) (putting fs) b c) b_peer due.puts.doing in
       let ahead : Doing M peer (looks_ahead peer see ∷ []) (receiver (receiving.Looked see) ∷ []) c d = subst (λ (n : ℕ). Doing M n (looks_ahead n see ∷ []) (receiver (receiving.Looked see) ∷ []) c d) c_peer looked_ahead in
       let named = number_in took.numbers in
-      let taken : Doing M peer (takes_named named peer took.takes) (taking took.numbers took.takes) d e = subst (λ (n : ℕ). Doing M n (takes_named named n took.takes) (taking took.numbers took.takes) d e) d_peer took.doing in
       let v : Visit = record { peer = peer; back = back; owed = fs; see = see; takes = took.takes } in
-      let last_two = doing-then M m-both peer (looks_ahead peer see ∷ []) (takes_named named peer took.takes) (receiver (receiving.Looked see) ∷ []) (taking took.numbers took.takes) c d e ahead taken in
-      let last_three = doing-then M m-both peer (map (puts_owed peer) fs) (looks_ahead peer see ∷ takes_named named peer took.takes) (putting fs) (receiver (receiving.Looked see) ∷ taking took.numbers took.takes) b c e puts last_two in
-      let all = doing-then M m-both peer (looks_back peer back ∷ []) (map (puts_owed peer) fs ++ (looks_ahead peer see ∷ takes_named named peer took.takes)) (sender (Looked back) ∷ []) (putting fs ++ (receiver (receiving.Looked see) ∷ taking took.numbers took.takes)) a b e looked_back last_three in
+      let front_two = doing-then M m-both peer (map (puts_owed peer) fs) (looks_ahead peer see ∷ []) (putting fs) (receiver (receiving.Looked see) ∷ []) b c d puts ahead in
+      let front = doing-then M m-both peer (looks_back peer back ∷ []) (map (puts_owed peer) fs ++ looks_ahead peer see ∷ []) (sender (Looked back) ∷ []) (putting fs ++ receiver (receiving.Looked see) ∷ []) a b d looked_back front_two in
+      let s = before_takes (state_of p) v in
+      let taken : Doing M peer (takes_named named peer took.takes) (taking s peer took.numbers took.takes) d e =
+      subst (λ (u : DomainState). Doing M peer (takes_named named peer took.takes) (taking u peer took.numbers took.takes) d e) front.state
+      (subst (λ (n : ℕ). Doing M n (takes_named named n took.takes) (taking (state_of d.parts) n took.numbers took.takes) d e) d_peer took.doing) in
+      let last_two = doing-then M m-both peer (looks_ahead peer see ∷ []) (takes_named named peer took.takes) (receiver (receiving.Looked see) ∷ []) (taking s peer took.numbers took.takes) c d e ahead taken in
+      let last_three = doing-then M m-both peer (map (puts_owed peer) fs) (looks_ahead peer see ∷ takes_named named peer took.takes) (putting fs) (receiver (receiving.Looked see) ∷ taking s peer took.numbers took.takes) b c e puts last_two in
+      let all = doing-then M m-both peer (looks_back peer back ∷ []) (map (puts_owed peer) fs ++ (looks_ahead peer see ∷ takes_named named peer took.takes)) (sender (Looked back) ∷ []) (putting fs ++ (receiver (receiving.Looked see) ∷ taking s peer took.numbers took.takes)) a b e looked_back last_three in
       let within_b : i < length b.parts.peers = (let long = same-length p b.parts bs in omega (arith, long, within)) in
       let b_ends : (peer_at b.parts i).ends ≡ record (x.ends) { free = x.ends.free + back } = doing-ends M (looks_back peer back ∷ []) (sender (Looked back) ∷ []) a b i within looked_back in
       let c_ends : (peer_at c.parts i).ends ≡ after_moves (putting fs) (peer_at b.parts i).ends = doing-ends M (map (puts_owed (peer_at b.parts i).number) fs) (putting fs) b c i within_b due.puts.doing in
@@ -263,8 +271,8 @@ module _ {L : Type 0} (M : L → List LaneMove → L → Type 0) (m-both : (a b 
         numbers = took.numbers;
         peer_is = refl;
         allowed = record {
-          at = peer_in plain p.table x;
-          known = get-position (is_numbered peer) (state_of p).peers ∙ find-place plain p.table i p.peers x sound.peers.rising there;
+          at = peer_in plain (parts_read p) p.table x;
+          known = get-position (is_numbered peer) (state_of p).peers ∙ find-place plain (parts_read p) p.table i p.peers x sound.peers.rising there;
           back_fits = omega (arith, fits);
           puts_due = due-first (x.ends.free + back) fs (owed_at c.parts i) (owed_at p i) are many;
           sees_shown = let same = ap (λ (l : LaneSeen). l.shown) c_seen in omega (arith, shown, same);

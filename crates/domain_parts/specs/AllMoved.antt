@@ -1,11 +1,13 @@
 -- The moves that a domain makes at the ends towards all its peers.
 -- Source: docs/PROFILE.md, "A turn" and "Calls".
 use Rattle.std.specs.Prelude.{ℕ, List, [], ◌∷◌, ◌++◌, ◌==◌, map, filter}
-use Rattle.lane_end.specs.ReceiveMoves.{Gave}
 use Rattle.board_model.specs.Journal.{Visit}
-use Rattle.board_model.specs.State.{Item, frames_from}
+use Rattle.board_model.specs.Deeds.{after_deeds}
+use Rattle.board_model.specs.State.{DomainState, Item, frames_from}
 use Rattle.domain_parts.specs.declared.peer.Peer.{Peer}
-use Rattle.domain_parts.specs.LaneMoves.{LaneMove, receiver}
+use Rattle.domain_parts.specs.LaneMoves.{LaneMove}
+use Rattle.domain_parts.specs.NumberedDeeds.{numbered_deeds}
+pub use Rattle.domain_parts.specs.VisitMoves.{giving}
 use Rattle.domain_parts.specs.VisitMoves.{putting, visit_moves}
 
 -- the ends towards each peer, in the order of the peers
@@ -21,15 +23,11 @@ AllMoved Moved [] [] [] = Unit {0}
 AllMoved Moved (a ∷ olds) (ms ∷ moves) (b ∷ news) = Moved a ms b × AllMoved Moved olds moves news
 AllMoved Moved olds moves news = ⊥
 
--- the moves of the visits of a turn, with the numbers of the buffers of the frames that each takes
-abbrev pub turn_moves : List Visit → List (List ℕ) → List (List LaneMove)
-turn_moves [] numbers = []
-turn_moves (v ∷ vs) [] = []
-turn_moves (v ∷ vs) (ns ∷ numbers) = visit_moves v ns ∷ turn_moves vs numbers
-
--- buffers are given back, one after the other
-abbrev pub giving : List ℕ → List LaneMove
-giving ns = map (λ n. receiver (Gave n)) ns
+-- the moves of the visits of a turn from a state, with the numbers of the buffers of the frames that each takes
+abbrev pub turn_moves : DomainState → List Visit → List (List ℕ) → List (List LaneMove)
+turn_moves s [] numbers = []
+turn_moves s (v ∷ vs) [] = []
+turn_moves s (v ∷ vs) (ns ∷ numbers) = visit_moves s v ns ∷ turn_moves (after_deeds s (numbered_deeds v ns)) vs numbers
 
 -- the frames that a call puts to a peer
 abbrev pub frames_to : ℕ → List (ℕ × List ℕ) → List (List ℕ)

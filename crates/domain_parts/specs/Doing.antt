@@ -13,7 +13,7 @@ use Rattle.domain_parts.specs.LaneMoves.{LaneMove}
 use Rattle.domain_parts.specs.NumberedDeeds.{number_in, numbered_deeds}
 use Rattle.domain_parts.specs.Owed.{put_lines}
 use Rattle.domain_parts.specs.Peers.{peer_in}
-use Rattle.domain_parts.specs.Parts.{Holding, Parts, peer_at, plain, state_of}
+use Rattle.domain_parts.specs.Parts.{Holding, Parts, parts_read, peer_at, plain, state_of}
 use Rattle.domain_parts.specs.Steps.{Did, Step, all_moves, at_peer}
 use Rattle.domain_parts.specs.VisitMoves.{putting, taking, visit_moves}
 
@@ -35,12 +35,12 @@ pub record Takes {L : Type 0} (Moved : L → List LaneMove → L → Type 0) (pl
   pub numbers : List ℕ
   pub many : length takes ≡ count
   pub each : length numbers ≡ count
-  pub doing : Doing Moved (peer_at old.parts place).number (takes_named (number_in numbers) (peer_at old.parts place).number takes) (taking numbers takes) old new
+  pub doing : Doing Moved (peer_at old.parts place).number (takes_named (number_in numbers) (peer_at old.parts place).number takes) (taking (state_of old.parts) (peer_at old.parts place).number numbers takes) old new
   pub told : lines' ≡ lines ++ map (taken_line (peer_at old.parts place).number) takes
 
 -- the frames that are owed to the peer at a place: announcements first, and then replies, the oldest first
 abbrev pub owed_at : Parts → ℕ → List (List ℕ)
-owed_at p i = owed_to p.table.domain (peer_in plain p.table (peer_at p i))
+owed_at p i = owed_to p.table.domain (peer_in plain (parts_read p) p.table (peer_at p i))
 
 -- the first of them are put
 pub record Puts {L : Type 0} (Moved : L → List LaneMove → L → Type 0) (place : ℕ) (begun : Bool) (frames : List (List ℕ)) (old new : Holding L) (lines lines' : List Line) : Type 0 where
@@ -62,6 +62,6 @@ pub record Visits {L : Type 0} (Moved : L → List LaneMove → L → Type 0) (p
   pub peer_is : visit.peer ≡ (peer_at old.parts place).number
   pub allowed : IsVisit (unnamed (state_of old.parts)) visit
   pub each : length numbers ≡ length visit.takes
-  pub doing : Doing Moved visit.peer (numbered_deeds visit numbers) (visit_moves visit numbers) old new
+  pub doing : Doing Moved visit.peer (numbered_deeds visit numbers) (visit_moves (state_of old.parts) visit numbers) old new
   pub told : lines' ≡ lines ++ told_of begun visit
   pub begins : begun' ≡ has_begun begun visit

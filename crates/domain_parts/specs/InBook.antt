@@ -19,7 +19,9 @@ use Rattle.request_set.specs.declared.ask.Complete.{Complete}
 use Rattle.request_set.specs.declared.ask.Complete.TheVariants as complete
 use Rattle.request_set.specs.Requests.{Standing, Requests}
 use Rattle.domain_parts.specs.declared.endpoints.Endpoint.{Endpoint}
-use Rattle.domain_parts.specs.Table.{Held, Table}
+use Rattle.domain_parts.specs.declared.parts.OpenPart.{OpenPart}
+use Rattle.domain_parts.specs.Pieces.{part_with}
+use Rattle.domain_parts.specs.Table.{Held, PartRead, Table}
 use Rattle.domain_parts.specs.Records.{Records}
 
 -- the slot of a buffer of the lane from a peer
@@ -148,8 +150,18 @@ packets_in b ids = map (packet_in b) ids
 abbrev pub contents_of : Book → List PacketId → List (List (List ℕ))
 contents_of b ids = map (λ id. contents_in (whole_at b (slot_of id))) ids
 
+-- the open parts: what came of each is what its frames hold
+abbrev pub part_by : Option Whole → OpenPart → PartRead
+part_by w o = record { peer = o.slot.peer; part = part_with o (content_in w); names = frames_in w }
+
+abbrev pub part_read : Book → OpenPart → PartRead
+part_read b o = part_by (whole_at b o.slot) o
+
+abbrev pub open_parts : Book → List OpenPart → List PartRead
+open_parts b os = map (part_read b) os
+
 abbrev pub held_by : Book → Records → Requests → Held
-held_by b r q = record { endpoints = endpoints_in b r.endpoints; requests = requests_in b q.standing; lent = packets_in b r.lent }
+held_by b r q = record { endpoints = endpoints_in b r.endpoints; requests = requests_in b q.standing; lent = packets_in b r.lent; parts = open_parts b r.parts }
 
 abbrev pub table_in : Book → Records → Requests → Table
 table_in b r q = record { number = r.number; held = held_by b r q; given = r.given; room = r.room; requests_given = q.given }

@@ -3,15 +3,17 @@
 -- counts.
 use Rattle.std.specs.Prelude.{◌≡◌, ℕ, ◌+◌, ◌≤◌, Bool, cond, not, ◌&&◌, List, [], ◌∷◌, ◌++◌, length, map, count_by, Option, None, Some, option_and_then, is_some, nat_lt, true, ◌==◌}
 use Rattle.std.specs.List.{AllByRecursion}
-use Rattle.mc_base.specs.Limits.{item_size}
+use Rattle.mc_base.specs.Limits.{domain_limit, item_size}
 use Rattle.mc_base.specs.declared.request.PacketId.{PacketId}
 use Rattle.mc_base.specs.declared.request.Slot.{Slot}
 use Rattle.buffer_book.specs.Book.{Book, Item, NoneAside, if_state, item_at, kept_at, name_at, place_at, queued_at, slot_of}
 use Rattle.message_queue.specs.Queue.{Waiting}
 use Rattle.request_set.specs.Requests.{Requests}
-use Rattle.domain_parts.specs.Records.{Records, all_waiting, lent_slots}
+use Rattle.domain_parts.specs.Records.{Records, all_waiting, lent_slots, part_slots}
 pub use Rattle.domain_parts.specs.InBook.{slot_at}
-use Rattle.domain_parts.specs.InBook.{Whole, content_in, frames_at, priority_in, whole_at}
+use Rattle.domain_parts.specs.InBook.{Whole, channel_in, content_in, frames_at, priority_in, source_in, whole_at}
+use Rattle.domain_parts.specs.Pieces.{carrier_channel, carrier_in, carrier_priority}
+use Rattle.domain_parts.specs.declared.parts.OpenPart.{OpenPart}
 use Rattle.domain_parts.specs.InRequests.{handed_slots}
 use Rattle.lane_end.specs.Numbers.{often, AreApart}
 use Rattle.domain_parts.specs.Out.{Out}
@@ -69,9 +71,9 @@ pub record EachInPlace (number : ℕ) (o : Out) (ss ls : List Slot) (b : Book) (
   -- they differ, and are numbers of the lane's buffers
   pub apart : AreApart o.size o.numbers
 
--- the slots that wait or were handed
+-- the slots of open parts, and those that wait or were handed
 abbrev pub slots_of : Records → Requests → List Slot
-slots_of r q = map (λ w. w.slot) (all_waiting r.endpoints) ++ handed_slots q.standing
+slots_of r q = part_slots r.parts ++ (map (λ w. w.slot) (all_waiting r.endpoints) ++ handed_slots q.standing)
 
 -- an item waits with another priority than its first frame has
 abbrev pub is_misplaced : Book → Waiting → Bool
@@ -84,11 +86,30 @@ lent_item b id = option_and_then (if_state (Some id.serial)) (item_at b (slot_of
 abbrev pub IsLentAs : Book → PacketId → Type 0
 IsLentAs b id = is_some (lent_item b id) ≡ true
 
+-- an open part is what its frames say: as many bytes came as they hold, and the first tells its source, priority and channel
+pub record IsOpenBy (w : Option Whole) (o : OpenPart) : Type 0 where
+  pub size : length (content_in w) ≡ o.size
+  pub source : source_in w ≡ o.source
+  pub priority : priority_in w ≡ carrier_priority (carrier_in o.carrier)
+  pub channel : channel_in w ≡ carrier_channel (carrier_in o.carrier)
+  pub within : o.size ≤ o.total
+  pub most : o.total ≤ item_size
+
+abbrev pub IsOpenAs : Book → OpenPart → Type 0
+IsOpenAs b o = IsOpenBy (whole_at b o.slot) o
+
+-- no peer has two. Today none has one: no piece begins a part
+pub record AreOpen (b : Book) (os : List OpenPart) : Type 0 where
+  pub each : AllByRecursion (IsOpenAs b) os
+  pub apart : AreApart domain_limit (map (λ o. o.slot.peer) os)
+  pub none : os ≡ []
+
 -- each buffer of the lane from a peer that is out is in one place, but for these, and what waits has the priority of its first frame
 pub record AreInPlacesBeside (ns : List ℕ) (number : ℕ) (r : Records) (q : Requests) (b : Book) (o : Out) : Type 0 where
   pub each : EachInPlace number o (slots_of r q) (lent_slots r) b ns
   pub priorities : count_by (is_misplaced b) (all_waiting r.endpoints) ≡ 0
   pub lent : AllByRecursion (IsLentAs b) r.lent
+  pub parts : AreOpen b r.parts
 
 abbrev pub AreInPlaces : ℕ → Records → Requests → Book → Out → Type 0
 AreInPlaces number r q b o = AreInPlacesBeside [] number r q b o

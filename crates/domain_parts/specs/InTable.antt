@@ -11,7 +11,7 @@ use Rattle.domain_parts.specs.declared.endpoints.Endpoints.TheInside.{Inside}
 use Rattle.domain_parts.specs.Records.{Records}
 
 abbrev pub records_of : Inside → Records
-records_of t = record { number = t.number; endpoints = t.records.items; given = t.given; channels = t.channels; lent = t.lent.items; room = t.room }
+records_of t = record { number = t.number; endpoints = t.records.items; given = t.given; channels = t.channels; lent = t.lent.items; parts = []; room = t.room }
 
 -- each queue has room for so many
 abbrev pub HaveRoom : ℕ → List Endpoint → Type 0

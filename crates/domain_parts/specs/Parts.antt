@@ -10,11 +10,12 @@ use Rattle.board_model.specs.Unnamed.{unnamed}
 use Rattle.domain_parts.specs.declared.peer.Peer.{Peer}
 use Rattle.domain_parts.specs.AllMoved.{ends_of}
 use Rattle.domain_parts.specs.DomainView.{DomainView}
-use Rattle.domain_parts.specs.InBook.{contents_of}
+use Rattle.domain_parts.specs.InBook.{contents_of, open_parts}
 use Rattle.domain_parts.specs.LaneSeen.{LaneSeen}
 use Rattle.domain_parts.specs.Peers.{state_in}
 use Rattle.domain_parts.specs.Records.{Records}
 use Rattle.domain_parts.specs.Sound.{AreSound}
+use Rattle.domain_parts.specs.Table.{PartRead}
 
 -- what is seen of a peer and the ends towards it
 abbrev pub peer_seen : {L : Type 0} → (L → LaneSeen) → Peer L → Peer LaneSeen
@@ -41,6 +42,10 @@ state_of p = state_in plain p.book p.records p.requests p.table p.peers
 
 abbrev pub Sound : Parts → Type 0
 Sound p = AreSound plain p.book p.records p.requests p.table p.peers
+
+-- their open parts
+abbrev pub parts_read : Parts → List PartRead
+parts_read p = open_parts p.book p.records.parts
 
 -- the peer at a place, and none where there is no such place
 abbrev pub nobody : Peer LaneSeen

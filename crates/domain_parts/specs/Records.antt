@@ -2,7 +2,7 @@
 -- were received there and are lent.
 -- Source: docs/PROFILE.md, "A domain". Of a buffer that waits stand its slot and its priority here; what it holds is told
 -- in the book of buffers.
-use Rattle.std.specs.Prelude.{ℕ, ◌+◌, List, [], ◌∷◌, ◌++◌, map, slice_get, Option, None, Some, is_none, if◌then◌else◌}
+use Rattle.std.specs.Prelude.{ℕ, ◌+◌, Bool, not, ◌==◌, List, [], ◌∷◌, ◌++◌, map, filter, find, slice_get, Option, None, Some, is_none, if◌then◌else◌}
 use Rattle.std.specs.List.{flat_map}
 use Rattle.mc_base.specs.Limits.{first_address}
 use Rattle.mc_base.specs.declared.name.Local.{Local}
@@ -14,19 +14,21 @@ use Rattle.packet_channel.specs.End.{kept_end}
 use Rattle.packet_channel.specs.declared.channel.Channel.{Channel}
 use Rattle.board_model.specs.Lists.{changed_at, without_at}
 use Rattle.domain_parts.specs.declared.endpoints.Endpoint.{Endpoint}
+use Rattle.domain_parts.specs.declared.parts.OpenPart.{OpenPart}
 
 -- the domain's number, its endpoints, how many were created, how many channels were numbered, the packets that are lent, in the order in
--- which they were lent, and for how many buffers each queue has room
+-- which they were lent, the open parts, in the order in which they grew last, and for how many buffers each queue has room
 pub record Records : Type 0 where
   pub number : ℕ
   pub endpoints : List Endpoint
   pub given : ℕ
   pub channels : ℕ
   pub lent : List PacketId
+  pub parts : List OpenPart
   pub room : ℕ
 
 abbrev pub opening_records : ℕ → ℕ → Records
-opening_records number room = record { number = number; endpoints = []; given = 0; channels = 0; lent = []; room = room }
+opening_records number room = record { number = number; endpoints = []; given = 0; channels = 0; lent = []; parts = []; room = room }
 
 -- one more endpoint, at which nothing waits
 abbrev pub new_record : ℕ → Local → ℕ → Endpoint
@@ -82,6 +84,26 @@ with_last_lent r id = record r { lent = r.lent ++ id ∷ [] }
 abbrev pub without_lent_at : Records → ℕ → Records
 without_lent_at r i = record r { lent = without_at i r.lent }
 
+-- no part of a peer is open, and this part of its peer is
+abbrev pub is_part_of : ℕ → OpenPart → Bool
+is_part_of peer o = o.slot.peer == peer
+
+abbrev pub without_part : ℕ → List OpenPart → List OpenPart
+without_part peer os = filter (λ o. not (is_part_of peer o)) os
+
+abbrev pub with_part : OpenPart → List OpenPart → List OpenPart
+with_part o os = without_part o.slot.peer os ++ o ∷ []
+
+abbrev pub without_part_of : Records → ℕ → Records
+without_part_of r peer = record r { parts = without_part peer r.parts }
+
+abbrev pub with_part_open : Records → OpenPart → Records
+with_part_open r o = record r { parts = with_part o r.parts }
+
+-- the open part of a peer
+abbrev pub part_open : Records → ℕ → Option OpenPart
+part_open r peer = find (is_part_of peer) r.parts
+
 -- what waits at an endpoint, and at all of them
 abbrev pub waiting_in : Option Endpoint → List Waiting
 waiting_in None = []
@@ -93,6 +115,10 @@ all_waiting es = flat_map (λ e. e.queue.waiting) es
 -- their buffers, the oldest first, where they wait at the endpoint at a place
 abbrev pub slots_at : Records → ℕ → List Slot
 slots_at r i = map (λ w. w.slot) (waiting_in (slice_get r.endpoints i))
+
+-- the first buffers of the open parts
+abbrev pub part_slots : List OpenPart → List Slot
+part_slots os = map (λ o. o.slot) os
 
 -- the buffers of the packets that are lent
 abbrev pub lent_slots : Records → List Slot

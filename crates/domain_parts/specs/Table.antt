@@ -2,13 +2,20 @@
 -- Source: docs/PROFILE.md, "A domain".
 use Rattle.std.specs.Prelude.{ℕ, List, []}
 use Rattle.std.specs.List.{flat_map}
-use Rattle.board_model.specs.State.{DomainState, Endpoint, Item, LentPacket, Request}
+use Rattle.board_model.specs.State.{DomainState, Endpoint, Item, LentPacket, Part, Request}
+
+-- an open part: the peer that sends it, what came of it, and the names of its frames
+pub record PartRead : Type 0 where
+  pub peer : ℕ
+  pub part : Part
+  pub names : List ℕ
 
 -- what a frame that is taken may change
 pub record Held : Type 0 where
   pub endpoints : List Endpoint
   pub requests : List Request
   pub lent : List LentPacket
+  pub parts : List PartRead
 
 -- the domain's number, what it holds, how many endpoints were created, how many items each queue has room for, and how many
 -- requests were given, modulo 2^64

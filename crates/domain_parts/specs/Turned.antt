@@ -25,7 +25,7 @@ pub record Turns {L : Type 0} (Moved : L → List LaneMove → L → Type 0) (vi
   pub state : new.state ≡ after_turn old.state visits
   pub numbered : new.numbered ≡ after_deeds old.numbered (turn_deeds visits numbers)
   pub each : HaveNumbers visits numbers
-  pub moved : AllMoved Moved old.ends (turn_moves visits numbers) new.ends
+  pub moved : AllMoved Moved old.ends (turn_moves old.numbered visits numbers) new.ends
   pub ids : new.ids ≡ old.ids
   pub packets : new.packets ≡ old.packets
 

@@ -1,10 +1,11 @@
 -- What is to be done with a frame that is taken, by the row that it has.
 -- Source: docs/PROFILE.md, "What a domain does with a taken frame".
-use Rattle.std.specs.Prelude.{◌≡◌, ℕ, ◌+◌, ◌≤◌, ◌<◌, Bool, true, false, List, [], ◌∷◌, ◌++◌, length, take, drop, position, slice_get, Option, Some, None, option_map}
+use Rattle.std.specs.Prelude.{◌≡◌, ℕ, ◌+◌, ◌≤◌, ◌<◌, Bool, true, false, List, [], ◌∷◌, ◌++◌, length, take, drop, position, slice_get, slice_index, Option, Some, None, option_map}
 use Rattle.mc_base.specs.Limits.{item_size}
 use Rattle.mc_base.specs.Frame.{source_of}
 use Rattle.mc_base.specs.Letter.{PlainLetter, msg, packet, scalar, connect}
 use Rattle.mc_base.specs.NameMap.{Names}
+use Rattle.mc_base.specs.Reading.{Reading, reading}
 use Rattle.mc_base.specs.declared.channel.Kind.{Kind}
 use Rattle.mc_base.specs.declared.channel.Reason.{Reason}
 use Rattle.mc_base.specs.declared.fate.Fate.{Fate}
@@ -51,14 +52,12 @@ desk r q names replies = record { records = r; requests = q; names = names; repl
 abbrev pub beside : Records → Requests → List Reply → Names → Desk
 beside r q replies names = desk r q names replies
 
--- a state with these endpoints and requests, in which these names are known of a peer, as many replies are owed to it, and it has no
--- open part
+-- a state with these endpoints and requests, in which these names are known of a peer, and as many replies are owed to it
 pub record Shows (s : DomainState) (peer : ℕ) (b : Book) (d : Desk) : Type 0 where
   pub endpoints : s.endpoints ≡ endpoints_in b d.records.endpoints
   pub requests : s.requests ≡ requests_in b d.requests.standing
   pub known : names_of (peer_at s peer) ≡ d.names
   pub owed : replies_to (peer_at s peer) ≡ length d.replies
-  pub closed : part_of s peer ≡ None
 
 -- ---- verdicts, by the row of the frame
 
@@ -253,6 +252,10 @@ connect_row s way number kind = first_row (connect_rows s way.peer way.source wa
 
 -- ---- frames
 
+-- each byte is one
+abbrev pub AreBytes : List ℕ → Type 0
+AreBytes xs = (i : ℕ) → slice_index xs i < 256
+
 -- the item of a frame has this size and lies within it
 pub record Fits (frame : List ℕ) (size : ℕ) : Type 0 where
   pub short : size ≤ item_size
@@ -266,8 +269,14 @@ IsVerdict s name peer frame (verdict.Returned fate) d d' = IsReturned s peer (ro
 
 -- ---- what is said of functions: in each state with what they have, whatever names the frames have
 
-abbrev pub Deals : ℕ → List ℕ → Verdict → Desk → Desk → Type 0
-Deals peer frame v d d' = (b : Book) (s : DomainState) (name : Option ℕ) → Shows s peer b d → IsVerdict s name peer frame v d d'
+-- and of each frame that says this
+abbrev pub Deals : ℕ → Reading → Verdict → Desk → Desk → Type 0
+Deals peer said v d d' = (frame : List ℕ) (b : Book) (s : DomainState) (name : Option ℕ) → AreBytes frame → said ≡ reading frame → Shows s peer b d
+    → IsVerdict s name peer frame v d d'
+
+-- of a frame from a peer that has no open part
+abbrev pub DealsAlone : ℕ → List ℕ → Verdict → Desk → Desk → Type 0
+DealsAlone peer frame v d d' = (b : Book) (s : DomainState) (name : Option ℕ) → Shows s peer b d → part_of s peer ≡ None → IsVerdict s name peer frame v d d'
 
 abbrev pub Judges : Way → PlainLetter → Verdict → (Names → Desk) → (Names → Desk) → Type 0
 Judges way l v d d' = (b : Book) (s : DomainState) (came : Came) (names : Names) → Shows s way.peer b (d names)

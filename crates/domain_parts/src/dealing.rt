@@ -2,18 +2,24 @@
 
 ghost use Rattle.std.specs.Prelude.{◌≡◌, ◌<◌, None, length};
 ghost use Rattle.mc_base.specs.Letter.{piece_in, plain_letter};
+ghost use Rattle.name_service.specs.Said.{reading_of};
+ghost use Rattle.domain_parts.specs.Growing.{IsNoPiece, IsRead};
 ghost use Rattle.domain_parts.specs.InRequests.{AreReceives};
-ghost use Rattle.domain_parts.specs.Verdicts.{Brings, Deals, IsInBounds, Judges, beside, desk, fate_of};
+ghost use Rattle.domain_parts.specs.Verdicts.{DealsAlone, Brings, Deals, IsInBounds, Judges, beside, desk, fate_of};
+ghost use Rattle.domain_parts.specs.Items.{BringsMessage};
 
 mod connects;
+mod items;
 mod letters;
 
 use crate::announcements::hear;
 use crate::dealing::connects::answer_connect;
 pub use crate::dealing::connects::is_busy;
+pub use crate::dealing::items::judge_item;
 use crate::dealing::letters::act;
 use crate::endpoints::Endpoints;
 use crate::fates::fault_fate;
+use crate::parts::piece_of;
 use crate::replies::Replies;
 use crate::requests::oldest_receive;
 use mc_base::{Fate, Letter, Priority, RequestId};
@@ -55,14 +61,13 @@ impl Verdict {
 /// Where a letter comes from, and where it goes.
 #[derive(Clone, Copy)]
 pub struct Way {
-    peer: u8,
-    source: u32,
-    destination: u32,
+    pub peer: u8,
+    pub source: u32,
+    pub destination: u32,
 }
 
-/// Deals with a frame from a peer, which may have any bytes, and returns what is to be done with its buffer. `known` are the
-/// names that are known of this peer, and `replies` those that are owed to it.
-pub fn deal(
+/// Deals with a frame from a peer that has no open part, which may have any bytes. No piece begins a part, so each is stray.
+pub fn deal_alone(
     endpoints: &mut Endpoints,
     requests: &mut RequestSet,
     known: &mut KnownNames,
@@ -71,23 +76,43 @@ pub fn deal(
     frame: &[u8],
 ) -> Verdict
     requires { AreReceives requests.old }
-    ensures { let old = desk endpoints.old requests.old known.old replies.old in Deals peer frame.now result old (desk endpoints.new requests.new known.new replies.new) }
+    ensures { let old = desk endpoints.old requests.old known.old replies.old in
+        DealsAlone peer frame.now result old (desk endpoints.new requests.new known.new replies.new) }
 {
-    match read_frame(frame) {
+    let said = read_frame(frame);
+    match piece_of(&said) {
+        Some(_) => Verdict::Returned(Fate::Stray),
+        None => deal(endpoints, requests, known, replies, peer, said),
+    }
+}
+
+/// Deals with a frame from a peer by what it says, which is no piece of an item, and returns what is to be done with its buffer.
+/// `known` are the names that are known of this peer, and `replies` those that are owed to it.
+fn deal(
+    endpoints: &mut Endpoints,
+    requests: &mut RequestSet,
+    known: &mut KnownNames,
+    replies: &mut Replies,
+    peer: u8,
+    said: Said<'_>,
+) -> Verdict
+    requires receives { AreReceives requests.old }
+    requires read { IsRead (reading_of said) }
+    requires whole { IsNoPiece (reading_of said) }
+    ensures { let old = desk endpoints.old requests.old known.old replies.old in
+        Deals peer (reading_of said.entry) result old (desk endpoints.new requests.new known.new replies.new) }
+{
+    match said {
         Said::Faulty(fault) => Verdict::Returned(fault_fate(fault)),
         Said::Announces(ns) => Verdict::Returned(hear(known, requests, peer, &ns)),
-        Said::Sends { src, dst, letter } => match letter {
-            // No part is open that it could go on with.
-            Letter::MsgPart { .. } | Letter::PacketPart { .. } => Verdict::Returned(Fate::Stray),
-            _ => {
-                let way = Way {
-                    peer,
-                    source: src,
-                    destination: dst,
-                };
-                judge(endpoints, requests, replies, way, &letter)
-            }
-        },
+        Said::Sends { src, dst, letter } => {
+            let way = Way {
+                peer,
+                source: src,
+                destination: dst,
+            };
+            judge(endpoints, requests, replies, way, &letter)
+        }
     }
 }
 
@@ -113,10 +138,25 @@ fn judge(
     let Letter::Msg { priority, bytes } = *letter else {
         return act(endpoints, requests, way.peer, place, letter);
     };
+    bring_message(endpoints, requests, place, priority, bytes.len() as u32)
+}
+
+/// Brings a message to the endpoint at a place, unless that has a channel.
+fn bring_message(
+    endpoints: &Endpoints,
+    requests: &RequestSet,
+    place: usize,
+    priority: Priority,
+    size: u32,
+) -> Verdict
+    requires receives { AreReceives requests.now }
+    requires within { place < length endpoints.now.endpoints }
+    ensures { BringsMessage endpoints.now requests.now place priority size result }
+{
     if endpoints.has_channel(place) {
         return Verdict::Returned(Fate::OnChannel);
     }
-    bring(endpoints, requests, place, priority, bytes.len() as u32)
+    bring(endpoints, requests, place, priority, size)
 }
 
 /// Brings an item to the endpoint at a place: to the oldest receive that waits there, or to the queue.

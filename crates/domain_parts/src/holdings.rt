@@ -19,6 +19,7 @@ mod opening;
 mod owed;
 mod raw_calls;
 mod request_calls;
+mod sending;
 mod taking;
 mod turns;
 mod wait_calls;

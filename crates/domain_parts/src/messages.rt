@@ -2,6 +2,7 @@
 
 ghost use Rattle.std.specs.Prelude.{◌≡◌, ◌≤◌, ◌<◌, ◌++◌, min, length, take, drop};
 ghost use Rattle.mc_base.specs.Frame.{made};
+ghost use Rattle.mc_base.specs.Limits.{item_size};
 ghost use Rattle.mc_base.specs.Letter.{FitsFrame, letter_text, saying_of};
 ghost use Rattle.buffer_book.specs.Book.{IsQueued};
 ghost use Rattle.domain_parts.specs.InBook.{content_in, whole_at};
@@ -41,7 +42,7 @@ fn write_payload(out: &mut [u8], letter: &Letter<'_>) -> usize
 /// Gives the first bytes of an item in a queue, at most so many. There is room for them. The rest of `out` stays.
 pub fn give(book: &BufferBook, slot: Slot, most: usize, out: &mut [u8]) -> Got
     requires queued { IsQueued book.now slot }
-    requires short { length (content_in (whole_at book.now slot)) ≤ 488 }
+    requires short { length (content_in (whole_at book.now slot)) ≤ item_size }
     requires room { most ≤ length out.old }
     ensures size { result.size ≡ length (content_in (whole_at book.now slot)) }
     ensures given { result.given ≡ min most result.size }

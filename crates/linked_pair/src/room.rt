@@ -6,7 +6,7 @@ use domain_core::{CALL_BYTES, CALL_ENTRIES};
 use mc_base::NoMemory;
 use mc_journal::Journal;
 
-/// Makes room in a journal for one call of a domain: for 160 entries of 67,584 bytes together. Where there is room enough it
+/// Makes room in a journal for one call of a domain: for 176 entries of 90,112 bytes together. Where there is room enough it
 /// takes no memory.
 ///
 /// # Errors

@@ -77,16 +77,16 @@ impl Pair {
     }
 
     fn steps_three(&mut self, notes: &mut Notes, step: Step) -> Outcome
-        requires entry_room { 160 ≤ notes.old.journal.entry_room }
-        requires byte_room { 67584 ≤ notes.old.journal.byte_room }
+        requires entry_room { 176 ≤ notes.old.journal.entry_room }
+        requires byte_room { 90112 ≤ notes.old.journal.byte_room }
     {
         domains_stay_linked();
         step_of(&mut self.three, notes, step)
     }
 
     fn steps_four(&mut self, notes: &mut Notes, step: Step) -> Outcome
-        requires entry_room { 160 ≤ notes.old.journal.entry_room }
-        requires byte_room { 67584 ≤ notes.old.journal.byte_room }
+        requires entry_room { 176 ≤ notes.old.journal.entry_room }
+        requires byte_room { 90112 ≤ notes.old.journal.byte_room }
     {
         domains_stay_linked();
         step_of(&mut self.four, notes, step)
@@ -118,10 +118,10 @@ impl Board {
     }
 
     fn does(&mut self, deed: Deed) -> Outcome
-        requires entries_of_three { 160 ≤ self.old.threes.journal.entry_room }
-        requires bytes_of_three { 67584 ≤ self.old.threes.journal.byte_room }
-        requires entries_of_four { 160 ≤ self.old.fours.journal.entry_room }
-        requires bytes_of_four { 67584 ≤ self.old.fours.journal.byte_room }
+        requires entries_of_three { 176 ≤ self.old.threes.journal.entry_room }
+        requires bytes_of_three { 90112 ≤ self.old.threes.journal.byte_room }
+        requires entries_of_four { 176 ≤ self.old.fours.journal.entry_room }
+        requires bytes_of_four { 90112 ≤ self.old.fours.journal.byte_room }
     {
         match deed {
             Three(step) => self.pair.steps_three(&mut self.threes, step),
@@ -166,8 +166,8 @@ fn linked(alloc: Global, number: u8, link: PlainLink) -> Result<PlainDomain, Fai
 
 /// Makes a call.
 fn step_of(domain: &mut PlainDomain, notes: &mut Notes, step: Step) -> Outcome
-    requires entry_room { 160 ≤ notes.old.journal.entry_room }
-    requires byte_room { 67584 ≤ notes.old.journal.byte_room }
+    requires entry_room { 176 ≤ notes.old.journal.entry_room }
+    requires byte_room { 90112 ≤ notes.old.journal.byte_room }
     ensures { PlainGoes domain.old domain.new }
 {
     stepped(domain, &mut notes.journal, &mut notes.ids, step)
@@ -175,8 +175,8 @@ fn step_of(domain: &mut PlainDomain, notes: &mut Notes, step: Step) -> Outcome
 
 /// Whether a deed answers this.
 fn answers(board: &mut Board, deed: Deed, due: steps::Answered) -> Result<bool, NoMemory> {
-    board.threes.journal.reserve(160, 67_584)?;
-    board.fours.journal.reserve(160, 67_584)?;
+    board.threes.journal.reserve(176, 90_112)?;
+    board.fours.journal.reserve(176, 90_112)?;
     Ok(board.does(deed)? == Some(due))
 }
 

@@ -202,7 +202,7 @@ fn assert_dealt(rt: &impl Abort, noted: &mut Noted, rows: &[Row]) -> Result<(), 
     let row = (Create(0, 1), Ok(1024));
     assert!(rt; answers(&mut noted.domain, &mut noted.journal, row)?);
     for _ in 0..rows.len() / 8 {
-        noted.journal.reserve(160, 67_584)?;
+        noted.journal.reserve(176, 90_112)?;
         noted.domain.turn(&mut noted.journal);
     }
     assert_fates(rt, &noted.journal, rows);
@@ -223,14 +223,14 @@ fn assert_known(
 
 /// Begins a lookup of endpoint 1:0:N.
 fn looked_up(noted: &mut Noted, port: u16) -> Result<RequestId, Fail> {
-    noted.journal.reserve(160, 67_584)?;
+    noted.journal.reserve(176, 90_112)?;
     Ok(noted.domain.lookup(&mut noted.journal, end_at(1, port))?)
 }
 
 /// How a request ends, of which no bytes come.
 fn end_of(noted: &mut Noted, id: RequestId) -> Result<Result<Done, Refusal>, NoMemory> {
     let mut out = [0; 488];
-    noted.journal.reserve(160, 67_584)?;
+    noted.journal.reserve(176, 90_112)?;
     Ok(noted.domain.test(&mut noted.journal, id, &mut out))
 }
 

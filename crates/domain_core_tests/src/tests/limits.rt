@@ -67,7 +67,7 @@ fn assert_created(
     journal: &mut Journal,
 ) -> Result<(), Fail> {
     assert!(rt; answers(domain, journal, (Create(0, 1), Ok(1024)))?);
-    journal.reserve(160, 67_584)?;
+    journal.reserve(176, 90_112)?;
     assert!(rt; !domain.turn(journal));
     Ok(())
 }

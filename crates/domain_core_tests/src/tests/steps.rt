@@ -161,8 +161,8 @@ pub fn stepped<S: SendEnd, R: RecvEnd>(
     ids: &mut Vec<RequestId>,
     step: Step,
 ) -> Result<Option<Answered>, NoMemory>
-    requires entry_room { 160 ≤ journal.old.entry_room }
-    requires byte_room { 67584 ≤ journal.old.byte_room }
+    requires entry_room { 176 ≤ journal.old.entry_room }
+    requires byte_room { 90112 ≤ journal.old.byte_room }
     ensures { Goes (EndsMoved S.Moved R.Moved) domain.old domain.new }
 {
     match step {
@@ -309,8 +309,8 @@ fn sent_scalar<S: SendEnd, R: RecvEnd>(
     at: Local,
     value: Value,
 ) -> Result<(), Refusal>
-    requires entry_room { 160 ≤ journal.old.entry_room }
-    requires byte_room { 67584 ≤ journal.old.byte_room }
+    requires entry_room { 176 ≤ journal.old.entry_room }
+    requires byte_room { 90112 ≤ journal.old.byte_room }
     ensures { Goes (EndsMoved S.Moved R.Moved) domain.old domain.new }
 {
     match value {
@@ -374,8 +374,8 @@ fn tested<S: SendEnd, R: RecvEnd>(
     id: RequestId,
     byte: u8,
 ) -> Option<Answered>
-    requires entry_room { 160 ≤ journal.old.entry_room }
-    requires byte_room { 67584 ≤ journal.old.byte_room }
+    requires entry_room { 176 ≤ journal.old.entry_room }
+    requires byte_room { 90112 ≤ journal.old.byte_room }
     ensures { Goes (EndsMoved S.Moved R.Moved) domain.old domain.new }
 {
     let mut out = [0xee; 488];
@@ -391,8 +391,8 @@ fn waited<S: SendEnd, R: RecvEnd>(
     limit: u32,
     byte: u8,
 ) -> Result<Option<Answered>, NoMemory>
-    requires entry_room { 160 ≤ journal.old.entry_room }
-    requires byte_room { 67584 ≤ journal.old.byte_room }
+    requires entry_room { 176 ≤ journal.old.entry_room }
+    requires byte_room { 90112 ≤ journal.old.byte_room }
     ensures { Goes (EndsMoved S.Moved R.Moved) domain.old domain.new }
 {
     let mut out = [0xee; 488];
@@ -410,8 +410,8 @@ fn waited_any<S: SendEnd, R: RecvEnd>(
     byte: u8,
 ) -> Result<Option<Answered>, NoMemory>
     requires some { 1 ≤ length ids.now.items }
-    requires entry_room { 160 ≤ journal.old.entry_room }
-    requires byte_room { 67584 ≤ journal.old.byte_room }
+    requires entry_room { 176 ≤ journal.old.entry_room }
+    requires byte_room { 90112 ≤ journal.old.byte_room }
     ensures { Goes (EndsMoved S.Moved R.Moved) domain.old domain.new }
 {
     let mut out = [0xee; 488];

@@ -2,7 +2,7 @@
 
 ghost use Rattle.std.specs.Prelude.{[], ◌∷◌, ◌≡◌, ◌≤◌, ◌<◌, ◌+◌, ◌*◌, ◌^◌, ◌↔◌, map, false, true, nat_le, None, Some, IfErr, IfOk, IfSome, IsErr, IsNone, length, min, option_and_then, option_map, slice_get, take};
 ghost use Rattle.mc_base.specs.Letter.{bytes_of_bits};
-ghost use Rattle.mc_base.specs.Limits.{request_limit};
+ghost use Rattle.mc_base.specs.Limits.{request_limit, item_size};
 ghost use Rattle.mc_base.specs.declared.refusal.Refusal.TheVariants.{BufInvalid};
 ghost use Rattle.board_model.specs.Answer.{puts};
 ghost use Rattle.board_model.specs.Choice.{oldest};
@@ -15,11 +15,14 @@ ghost use Rattle.domain_parts.specs.CallSteps.{Acts, Succeeds};
 ghost use Rattle.domain_parts.specs.DomainView.{content_by, packet_lent_as, pieces_lent_as, place_of_packet_id};
 ghost use Rattle.domain_parts.specs.Parts.{shown, state_of};
 ghost use Rattle.domain_parts.specs.Records.{slots_at};
+ghost use Rattle.domain_parts.specs.Room.{item_bytes, item_entries};
 ghost use Rattle.domain_parts.specs.Steps.{Did, next_lent, oldest_lent};
 ghost use Rattle.mc_base.specs.declared.request.Slot.{Slot};
 
 use crate::holdings::Holdings;
 use crate::messages::give;
+use crate::outgoing::Outgoing;
+use crate::parts::Carrier;
 use crate::peer_lane::PeerLane;
 use crate::peers::give_back_lent;
 use mc_base::{Bits, Got, ITEM_SIZE, Kind, Letter, Local, PacketId, Refusal, RequestId};
@@ -35,12 +38,12 @@ impl<P: PeerLane> Holdings<P> {
         at: Local,
         bytes: &[u8],
     ) -> Result<(), Refusal>
-        requires entry_room { 1 ≤ journal.old.entry_room }
-        requires byte_room { 512 ≤ journal.old.byte_room }
+        requires entry_room { item_entries ≤ journal.old.entry_room }
+        requires byte_room { item_bytes ≤ journal.old.byte_room }
         ensures acts { Acts P.Moved at.node (packet_from at.port bytes.now) self.old self.new (sent result) None }
         ensures told { journal.new.lines ≡ noted_all journal.old.lines (map put_entry (puts (state_of self.old.parts) at.node (packet_from at.port bytes.now))) }
-        ensures entry_room { journal.old.entry_room ≤ journal.new.entry_room + 1 }
-        ensures byte_room { journal.old.byte_room ≤ journal.new.byte_room + 512 }
+        ensures entry_room { journal.old.entry_room ≤ journal.new.entry_room + item_entries }
+        ensures byte_room { journal.old.byte_room ≤ journal.new.byte_room + item_bytes }
     {
         let Some(place) = self.place_at(at) else {
             return Err(Refusal::EndpInvalid);
@@ -52,16 +55,14 @@ impl<P: PeerLane> Holdings<P> {
         if bytes.len() > ITEM_SIZE {
             return Err(Refusal::PktSize);
         }
-        if self.free_to(channel.peer) == 0 {
-            return Err(Refusal::NoBuffer);
-        }
-        let source = self.address_at(at, place);
-        let letter = Letter::Packet {
-            channel: channel.number,
+        let item = Outgoing {
+            peer: channel.peer,
+            source: self.address_at(at, place),
+            destination: channel.peer_addr,
+            carrier: Carrier::Packet(channel.number),
             bytes,
         };
-        self.put_letter(journal, channel.peer, source, channel.peer_addr, &letter);
-        Ok(())
+        self.put_item(journal, &item)
     }
 
     /// `scl_send` after its turn.
@@ -207,7 +208,7 @@ impl<P: PeerLane> Holdings<P> {
         ensures count { IfOk result (λ n. Some n ≡ option_map length (pieces_lent_as (shown self.now) id)) }
         ensures some { IfOk result (λ n. 0 < n) }
         ensures whole { content_by (pieces_lent_as (shown self.now) id) ≡ option_map (λ p. p.item.content) (packet_lent_as (shown self.now) id) }
-        ensures short { IfSome (packet_lent_as (shown self.now) id) (λ p. length p.item.content ≤ 488) }
+        ensures short { IfSome (packet_lent_as (shown self.now) id) (λ p. length p.item.content ≤ item_size) }
         ensures refused { IsErr result ↔ IsNone (packet_lent_as (shown self.now) id) }
         ensures word { IfErr result (λ word. word ≡ BufInvalid) }
     {

@@ -9,13 +9,16 @@ ghost use Rattle.board_model.specs.State.{place_at, queue_at};
 ghost use Rattle.domain_parts.specs.Calls.{available, received, sent};
 ghost use Rattle.domain_parts.specs.CallSteps.{Acts, Succeeds, call_steps};
 ghost use Rattle.domain_parts.specs.Parts.{state_of};
+ghost use Rattle.domain_parts.specs.Room.{item_bytes, item_entries};
 ghost use Rattle.domain_parts.specs.Steps.{Did};
 
 use crate::holdings::Holdings;
 use crate::messages::give;
+use crate::outgoing::Outgoing;
+use crate::parts::Carrier;
 use crate::peer_lane::PeerLane;
 use crate::peers::give_back;
-use mc_base::{EndName, Got, ITEM_SIZE, Letter, Local, Priority, Refusal};
+use mc_base::{EndName, Got, ITEM_SIZE, Local, Priority, Refusal};
 use mc_journal::Journal;
 
 impl<P: PeerLane> Holdings<P> {
@@ -28,12 +31,12 @@ impl<P: PeerLane> Holdings<P> {
         priority: Priority,
         bytes: &[u8],
     ) -> Result<(), Refusal>
-        requires entry_room { 1 ≤ journal.old.entry_room }
-        requires byte_room { 512 ≤ journal.old.byte_room }
+        requires entry_room { item_entries ≤ journal.old.entry_room }
+        requires byte_room { item_bytes ≤ journal.old.byte_room }
         ensures acts { Acts P.Moved from.node (send_from from.port to priority bytes.now) self.old self.new (sent result) None }
         ensures told { journal.new.lines ≡ noted_all journal.old.lines (map put_entry (puts (state_of self.old.parts) from.node (send_from from.port to priority bytes.now))) }
-        ensures entry_room { journal.old.entry_room ≤ journal.new.entry_room + 1 }
-        ensures byte_room { journal.old.byte_room ≤ journal.new.byte_room + 512 }
+        ensures entry_room { journal.old.entry_room ≤ journal.new.entry_room + item_entries }
+        ensures byte_room { journal.old.byte_room ≤ journal.new.byte_room + item_bytes }
     {
         let Some(place) = self.place_at(from) else {
             return Err(Refusal::EndpInvalid);
@@ -48,12 +51,14 @@ impl<P: PeerLane> Holdings<P> {
         if bytes.len() > ITEM_SIZE {
             return Err(Refusal::MsgSize);
         }
-        if self.free_to(to.domain) == 0 {
-            return Err(Refusal::NoBuffer);
-        }
-        let letter = Letter::Msg { priority, bytes };
-        self.put_letter(journal, to.domain, source, destination, &letter);
-        Ok(())
+        let item = Outgoing {
+            peer: to.domain,
+            source,
+            destination,
+            carrier: Carrier::Message(priority),
+            bytes,
+        };
+        self.put_item(journal, &item)
     }
 
     /// `msg_recv` after its turn.

@@ -1,7 +1,7 @@
 //! The calls that begin and end requests, after their turns.
 
 ghost use Rattle.std.specs.Prelude.{◌≡◌, ◌≤◌, ◌<◌, ◌∷◌, [], false, true, IfOk, IfSome, IsNone, None, OnErr, Some, length, map, nat_le};
-ghost use Rattle.mc_base.specs.Limits.{request_limit};
+ghost use Rattle.mc_base.specs.Limits.{request_limit, item_size};
 ghost use Rattle.board_model.specs.DomainCall.{cancel_of, lookup_of, request_at, test_of};
 ghost use Rattle.board_model.specs.State.{place_at};
 ghost use Rattle.domain_parts.specs.Calls.{GivesTo, IsFresh, LendsBy, cancelled, given, requested, tested};
@@ -90,7 +90,7 @@ impl<P: PeerLane> Holdings<P> {
 
     /// `test` after its turn.
     pub fn end_request(&mut self, id: RequestId, out: &mut [u8]) -> Result<Done, Refusal>
-        requires { 488 ≤ length out.old }
+        requires { item_size ≤ length out.old }
         ensures acts { Acts P.Moved 0 (test_of (place_of_id (shown self.old).ids id)) self.old self.new (tested result out.new (packet_lent_as (shown self.new))) None }
         ensures message { IfOk result (λ done. GivesTo done out.old out.new) }
         ensures lent { IfOk result (LendsBy (shown self.old) (shown self.new)) }

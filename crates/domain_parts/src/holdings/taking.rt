@@ -5,7 +5,7 @@ ghost use Rattle.domain_parts.specs.CallSteps.{Rests};
 ghost use Rattle.domain_parts.specs.Doing.{Takes};
 ghost use Rattle.domain_parts.specs.Parts.{peer_at};
 
-use crate::dealing::{Verdict, deal};
+use crate::dealing::{Verdict, deal_alone};
 use crate::holdings::Holdings;
 use crate::messages::CONTENT;
 use crate::peer_lane::PeerLane;
@@ -45,7 +45,7 @@ impl<P: PeerLane> Holdings<P> {
         let number = peer.number;
         let (buffer, len) = peer.ends.take();
         let (frame, _) = buffer.bytes().split_at(len as usize);
-        let verdict = deal(
+        let verdict = deal_alone(
             &mut self.endpoints,
             &mut self.requests,
             &mut peer.known,

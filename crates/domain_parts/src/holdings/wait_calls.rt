@@ -10,6 +10,7 @@ ghost use Rattle.domain_parts.specs.CallSteps.{Rests};
 ghost use Rattle.domain_parts.specs.DomainView.{packet_lent_as, place_of_id};
 ghost use Rattle.domain_parts.specs.Parts.{shown};
 ghost use Rattle.domain_parts.specs.Waiting.{AreAwaited, Polled, Waits, place_told, wait_on, waited_at};
+ghost use Rattle.mc_base.specs.Limits.{item_size};
 
 use crate::holdings::Holdings;
 use crate::peer_lane::PeerLane;
@@ -52,7 +53,7 @@ impl<P: PeerLane> Holdings<P> {
         out: &mut [u8],
     ) -> Result<(usize, Done), WaitFault>
         requires entry_room { 1 ≤ journal.old.entry_room }
-        requires out { 488 ≤ length out.old }
+        requires out { item_size ≤ length out.old }
         ensures waits { (says_place : Bool) → Waits P.Moved number limit ids.now says_place (shown self.old) (shown self.new) journal.old.lines journal.new.lines (waited_at says_place result out.new (packet_lent_as (shown self.new))) }
         ensures within { IfOk result (λ x. x.0 < length ids.now) }
         ensures message { IfOk result (λ x. GivesTo x.1 out.old out.new) }
@@ -102,7 +103,7 @@ impl<P: PeerLane> Holdings<P> {
         requires exist { all_exist ids.now (shown self.old) ≡ true }
         requires first { first_complete_in ids.now (shown self.old) ≡ Some at }
         requires rests { Rests P.Moved self.old }
-        requires out { 488 ≤ length out.old }
+        requires out { item_size ≤ length out.old }
         ensures does { (says_place : Bool) → Does P.Moved 0 (wait_on ids.now says_place (shown self.old)) (shown self.old) (shown self.new) (completes (place_told says_place at) (result_of_done result out.new (packet_lent_as (shown self.new)))) None }
         ensures message { GivesTo result out.old out.new }
         ensures lent { LendsBy (shown self.old) (shown self.new) result }

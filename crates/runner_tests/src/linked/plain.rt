@@ -84,8 +84,8 @@ fn call(
     call: &Call,
     out: &mut [u8; LONGEST],
 ) -> Option<Said>
-    requires entry_room { 160 ≤ journal.old.entry_room }
-    requires byte_room { 67584 ≤ journal.old.byte_room }
+    requires entry_room { 176 ≤ journal.old.entry_room }
+    requires byte_room { 90112 ≤ journal.old.byte_room }
 {
     let said = match call {
         Call::Create { port } => number(pair.create(which, journal, at(*port))),

@@ -139,7 +139,7 @@ fn assert_connected(rt: &impl Abort, noted: &mut Noted) -> Result<(), Fail> {
         "at an endpoint that has a channel",
         &REFUSED_ON_CHANNEL,
     )?;
-    noted.journal.reserve(160, 67_584)?;
+    noted.journal.reserve(176, 90_112)?;
     let ended = noted
         .domain
         .delete(&mut noted.journal, Local { node: 0, port: 1 });

@@ -109,10 +109,10 @@ fn connecting(alloc: Global) -> Result<LateDomain, Fail> {
 fn fill(domain: &mut LateDomain, journal: &mut Journal) -> Result<bool, NoMemory> {
     let mut all_put = true;
     for _ in 0..256 {
-        journal.reserve(160, 67_584)?;
+        journal.reserve(176, 90_112)?;
         all_put &= domain.raw_put(journal, 1, SHORT).is_ok();
     }
-    journal.reserve(160, 67_584)?;
+    journal.reserve(176, 90_112)?;
     Ok(all_put && domain.raw_put(journal, 1, SHORT) == Err(Refusal::NoBuffer))
 }
 
@@ -120,7 +120,7 @@ fn fill(domain: &mut LateDomain, journal: &mut Journal) -> Result<bool, NoMemory
 fn fill_and_turn(domain: &mut LateDomain, journal: &mut Journal) -> Result<bool, NoMemory> {
     let is_full = fill(domain, journal)?;
     for _ in 0..9 {
-        journal.reserve(160, 67_584)?;
+        journal.reserve(176, 90_112)?;
         domain.turn(journal);
     }
     Ok(is_full)

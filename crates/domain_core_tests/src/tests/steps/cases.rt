@@ -19,7 +19,7 @@ fn places((queue, lent): (u32, u32)) -> Option<Places> {
 
 /// Whether a call answers what it must, and this is held from then on.
 pub fn holds(lone: &mut Lone, (step, due, held): Row) -> Result<bool, NoMemory> {
-    lone.journal.reserve(160, 67_584)?;
+    lone.journal.reserve(176, 90_112)?;
     let answer = stepped(&mut lone.domain, &mut lone.journal, &mut lone.ids, step)?;
     Ok(answer == Some(due) && lone.domain.places(3) == places(held))
 }

@@ -80,7 +80,7 @@ const AT_THE_LIMITS: [Row; 8] = [
 /// Begins 64 lookups.
 fn fill(lone: &mut Lone) -> Result<(), NoMemory> {
     for _ in 0..64 {
-        lone.journal.reserve(160, 67_584)?;
+        lone.journal.reserve(176, 90_112)?;
         stepped(
             &mut lone.domain,
             &mut lone.journal,

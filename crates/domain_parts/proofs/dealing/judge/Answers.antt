@@ -1,9 +1,9 @@
 use Rattle.std.proofs.Common.{◌∙◌, ap, refl, sym, subst, true}
-use Rattle.mc_base.specs.Letter.{msg, plain_letter}
-use Rattle.board_model.specs.TakenFrames.{message_item}
-use Rattle.domain_parts.specs.Verdicts.{IsJudged, desk, letter_row, nothing}
+use Rattle.mc_base.specs.Letter.{plain_letter}
+use Rattle.domain_parts.specs.Verdicts.{IsJudged, desk, nothing}
 use Rattle.domain_parts.proofs.Acting.{acted-judged, nobody-row, of-channel}
-use Rattle.domain_parts.proofs.Judging.{brought-judged, has-read, message-row, no-channel, nobody-there, on-channel, one-there, some-channel}
+use Rattle.domain_parts.proofs.Items.{message-judged}
+use Rattle.domain_parts.proofs.Judging.{nobody-there, one-there}
 use Rattle.domain_parts.proofs.Readings.{none-from}
 use Rattle.domain_parts.proofs.dealing.judge.Goals as goal
 
@@ -30,33 +30,11 @@ returns-in_default-letter c = λ b s came names shows.
     let of = of-channel c.args.letter.now c.in_default-letter.not-Msg c.in_default.not-Connect c.requires.whole in
     acted-judged b d s came way.peer shows way.source way.destination at one.0 (c.in-Some.ensures.place b) one.1 (plain_letter c.args.letter.now) of c.requires.receives c.act.new.endpoints c.act.new.requests c.act.result c.act.ensures
 
-pub returns-then-has_channel : goal.returns-then-has_channel
-returns-then-has_channel c = λ b s came names shows.
-    let way = c.args.way in
-    let d = desk c.args.endpoints.now c.args.requests.now names c.args.replies.now in
-    let at = c.in-Some.place in
-    let one = one-there c.args.endpoints.now.endpoints at c.in-Some.ensures.within in
-    let some = some-channel one.0.channel (has-read c.args.endpoints.now.endpoints at one.0 one.1 c.has_channel.result c.has_channel.ensures ∙ c.if-has_channel.true) in
-    record {
-      effect = nothing;
-      applies = true;
-      row_is =
-          ap (λ l. letter_row s came way.peer way.source way.destination l) (ap plain_letter c.in-Msg.is)
-          ∙ on-channel b d s way.peer shows way.destination at one.0 (c.in-Some.ensures.place b) one.1 came way.source c.in-Msg.priority c.in-Msg.bytes.now some.0 some.1;
-      returned = refl;
-      placed = tt;
-      left = refl;
-    }
-
 pub returns : goal.returns
 returns c = λ b s came names shows.
     let way = c.args.way in
     let d = desk c.args.endpoints.now c.args.requests.now names c.args.replies.now in
     let at = c.in-Some.place in
     let one = one-there c.args.endpoints.now.endpoints at c.in-Some.ensures.within in
-    let l = msg c.in-Msg.priority c.in-Msg.bytes.now in
-    let item = message_item way.peer came way.source c.in-Msg.priority c.in-Msg.bytes.now in
-    let none = no-channel one.0.channel (has-read c.args.endpoints.now.endpoints at one.0 one.1 c.has_channel.result c.has_channel.ensures ∙ c.if-has_channel.false) in
-    let row = message-row b d s way.peer shows way.destination at one.0 (c.in-Some.ensures.place b) one.1 came way.source c.in-Msg.priority c.in-Msg.bytes.now none in
-    subst (λ m. IsJudged s came way.peer way.source way.destination m c.bring.result d d) (sym (ap plain_letter c.in-Msg.is))
-    (brought-judged b d s way.peer shows way.destination at one.0 (c.in-Some.ensures.place b) one.1 (letter_row s came way.peer way.source way.destination l) item row came way.source l refl refl tt c.requires.receives c.in-Msg.priority _ refl refl c.bring.result c.bring.ensures)
+    subst (λ m. IsJudged s came way.peer way.source way.destination m c.bring_message.result d d) (sym (ap plain_letter c.in-Msg.is))
+    (message-judged b d s way.peer shows way.destination at one.0 (c.in-Some.ensures.place b) one.1 came way.source c.in-Msg.priority c.in-Msg.bytes.now c.requires.receives _ refl c.bring_message.result c.bring_message.ensures)

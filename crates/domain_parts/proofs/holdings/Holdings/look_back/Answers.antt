@@ -59,4 +59,4 @@ returns-clause-owed g c =
     let set = set-peer (v g) ps c.args.place x (record x { ends = c.look_back.new.self }) (there g c) in
     let was = peer-is g.P.PeerLane.Moved g.met.P.PeerLane.none (v g) d.book d.endpoints d.requests d.table ps c.self.invariant c.args.place x (there g c) in
     subst (λ (h : Holding g.row.P.Denot). owed_at (parts_in (v g) d.book d.endpoints d.requests d.table (slice_set ps c.args.place (record x { ends = c.look_back.new.self }))) c.args.place ≡ owed_at h.parts c.args.place) c.self.view_is
-    (ap (λ (y : Peer LaneSeen). owed_to d.table.domain (peer_in plain d.table y)) set ∙ sym (ap (λ (y : Peer LaneSeen). owed_to d.table.domain (peer_in plain d.table y)) was))
+    (ap (λ (y : Peer LaneSeen). owed_to d.table.domain (peer_in plain [] d.table y)) set ∙ sym (ap (λ (y : Peer LaneSeen). owed_to d.table.domain (peer_in plain [] d.table y)) was))

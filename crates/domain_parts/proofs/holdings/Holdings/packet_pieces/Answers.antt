@@ -10,6 +10,7 @@ use Rattle.domain_parts.proofs.Unnaming.{lent-content, none-lent}
 use Rattle.domain_parts.proofs.LentPieces.{content-are, content_now, none-there, pieces-are, pieces-many, pieces_now, short-is}
 use Rattle.domain_parts.proofs.holdings.Holdings.packet_pieces.Given.{Over}
 use Rattle.domain_parts.proofs.holdings.Holdings.packet_pieces.Goals as goal
+use Rattle.mc_base.specs.Limits.{item_size}
 
 abbrev p : (g : Over) → Inside g.row.P.Denot → Parts
 p g d = parts_in g.P.PeerLane.seen d.book d.endpoints d.requests d.table d.peers.items
@@ -74,9 +75,9 @@ returns-in-Ok-clause-whole g c =
     ap content_by (sym (seen g c) ∙ pieces-are (p g c.self.inside) c.self.invariant c.args.id i.0 i.1)
     ∙ sym (bytes g c ∙ content-are (p g c.self.inside) c.self.invariant c.args.id i.0 i.1)
 
-if-short : (o : Option LentPacket) (xs : List ℕ) → option_map (λ (x : LentPacket). x.item.content) o ≡ Some xs → length xs ≤ 488 → IfSome o (λ (x : LentPacket). length x.item.content ≤ 488)
+if-short : (o : Option LentPacket) (xs : List ℕ) → option_map (λ (x : LentPacket). x.item.content) o ≡ Some xs → length xs ≤ item_size → IfSome o (λ (x : LentPacket). length x.item.content ≤ item_size)
 if-short None xs is short = tt
-if-short (Some x) xs is short = let same : x.item.content ≡ xs = cc in subst (λ (ys : List ℕ). length ys ≤ 488) (sym same) short
+if-short (Some x) xs is short = let same : x.item.content ≡ xs = cc in subst (λ (ys : List ℕ). length ys ≤ item_size) (sym same) short
 
 pub returns-in-Ok-clause-short : goal.returns-in-Ok-clause-short
 returns-in-Ok-clause-short g c =
@@ -96,4 +97,4 @@ returns-in-Err-clause-whole g c =
     ∙ sym (ap (option_map (λ (x : LentPacket). x.item.content)) (none-seen g c))
 
 pub returns-in-Err-clause-short : goal.returns-in-Err-clause-short
-returns-in-Err-clause-short g c = subst (λ (o : Option LentPacket). IfSome o (λ (x : LentPacket). length x.item.content ≤ 488)) (sym (none-seen g c)) tt
+returns-in-Err-clause-short g c = subst (λ (o : Option LentPacket). IfSome o (λ (x : LentPacket). length x.item.content ≤ item_size)) (sym (none-seen g c)) tt

@@ -3,7 +3,7 @@ use Rattle.std.specs.Prelude.{Contains, IsNone, position, ◌==◌}
 use Rattle.board_model.specs.State.{lent_from, queued_from}
 use Rattle.domain_parts.specs.Parts.{state_of}
 use Rattle.domain_parts.proofs.Stepping.{sound-unseen, state-seen}
-use Rattle.domain_parts.specs.InBook.{frames_count}
+use Rattle.domain_parts.specs.InBook.{frames_count, open_parts}
 use Rattle.domain_parts.specs.InRequests.{handed_slots}
 use Rattle.domain_parts.specs.LaneSeen.{LaneSeen}
 use Rattle.domain_parts.specs.Records.{lent_slots}
@@ -30,7 +30,7 @@ returns-in_err-place_of-clause-none g c =
     let d = c.self.inside in
     let v = g.P.PeerLane.seen in
     let at = subst (λ ps. None ≡ position (λ p. p.number == c.args.peer) ps) c.deref.ensures.value c.in_err-place_of.ensures.place ∙ number-place d.peers.items c.args.peer in
-    let same = sym (ap (λ s. map (λ p. p.number) s.peers) (state-seen v d.book d.endpoints d.requests d.table d.peers.items) ∙ ap (λ x. map (λ p. p.number) (state_of x.parts).peers) c.self.view_is) ∙ numbers-in v d.table d.peers.items in
+    let same = sym (ap (λ s. map (λ p. p.number) s.peers) (state-seen v d.book d.endpoints d.requests d.table d.peers.items) ∙ ap (λ x. map (λ p. p.number) (state_of x.parts).peers) c.self.view_is) ∙ numbers-in v (open_parts d.book d.endpoints.parts) d.table d.peers.items in
     (λ none has. none-some _ at (contained-found _ c.args.peer (subst (λ (ns : List ℕ). Contains ns c.args.peer) same has)), λ none. subst IsNone (sym c.from_residual.ensures) refl)
 
 -- ---- a peer has it
@@ -85,7 +85,7 @@ returns-clause-none g c =
     let d = c.self.inside in
     let v = g.P.PeerLane.seen in
     let at = subst (λ ps. Some c.in_ok-place_of.field-0 ≡ position (λ p. p.number == c.args.peer) ps) c.deref.ensures.value c.in_ok-place_of.ensures.place ∙ number-place d.peers.items c.args.peer in
-    let same = sym (numbers-in v d.table d.peers.items) ∙ ap (λ s. map (λ p. p.number) s.peers) (state-seen v d.book d.endpoints d.requests d.table d.peers.items) ∙ ap (λ x. map (λ p. p.number) (state_of x.parts).peers) c.self.view_is in
+    let same = sym (numbers-in v (open_parts d.book d.endpoints.parts) d.table d.peers.items) ∙ ap (λ s. map (λ p. p.number) s.peers) (state-seen v d.book d.endpoints d.requests d.table d.peers.items) ∙ ap (λ x. map (λ p. p.number) (state_of x.parts).peers) c.self.view_is in
     (λ e. absurd (absurd-no e), λ none. absurd (none (subst (λ (ns : List ℕ). Contains ns c.args.peer) same (found-contained _ c.args.peer c.in_ok-place_of.field-0 (sym at)))))
 
 pub returns-clause-queue : goal.returns-clause-queue

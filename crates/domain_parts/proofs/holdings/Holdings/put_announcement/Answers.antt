@@ -74,10 +74,10 @@ returns-clause-puts g c =
       f,
       record {
         owed =
-            ap (λ (y : Peer LaneSeen). state.owed_to d.table.domain (peer_in plain d.table y)) was
+            ap (λ (y : Peer LaneSeen). state.owed_to d.table.domain (peer_in plain [] d.table y)) was
             ∙ owed
-            ∙ ap (λ (t : Table). f ∷ state.owed_to t.domain (peer_in plain t (peer_seen (v g) (record x { ends = c.put.new.self })))) (sym c.paid.ensures)
-            ∙ ap (λ (y : Peer LaneSeen). f ∷ state.owed_to c.paid.new.self.domain (peer_in plain c.paid.new.self y)) (sym now);
+            ∙ ap (λ (t : Table). f ∷ state.owed_to t.domain (peer_in plain [] t (peer_seen (v g) (record x { ends = c.put.new.self })))) (sym c.paid.ensures)
+            ∙ ap (λ (y : Peer LaneSeen). f ∷ state.owed_to c.paid.new.self.domain (peer_in plain [] c.paid.new.self y)) (sym now);
         doing = doing;
         told = subst (λ (n : ℕ). c.note.new.self.lines ≡ lines ++ put_lines c.args.begun n (f ∷ [])) (sym number) told;
       },

@@ -1,45 +1,26 @@
-use Rattle.std.proofs.Common.{◌≡◌, ◌∙◌, ◌<◌, ℕ, Bool, false, true, List, ◌∷◌, [], cond, Option, None, Some, ap, map, sym, refl, subst, rules}
-use Rattle.std.specs.Prelude.{Err, nat_le, nat_lt, position, length, ◌==◌}
-use Rattle.std.proofs.lemmas.Bool.{le-leb, ltb-false}
-use Rattle.mc_base.specs.Frame.{made}
-use Rattle.mc_base.specs.Letter.{PlainLetter, of_packet, packet, piece_spelling, spelling}
-use Rattle.mc_base.specs.Limits.{item_size, single_size}
-use Rattle.mc_base.specs.Pieces.{parts_of}
-use Rattle.mc_base.specs.declared.channel.Kind.TheVariants.{Packet}
-use Rattle.mc_base.specs.declared.refusal.Refusal.{Refusal}
-use Rattle.mc_base.specs.declared.refusal.Refusal.TheVariants.{NoBuffer, PktSize}
-use Rattle.board_model.specs.Answer.{channel_at, lacks_buffers, refusal, success_puts, unless_refused}
-use Rattle.board_model.specs.CallChanges.{at_end, success_changes}
-use Rattle.board_model.specs.Change.{buffers_used}
-use Rattle.board_model.specs.ChannelEnds.{sends}
+use Rattle.std.proofs.Common.{◌≡◌, ◌∙◌, ℕ, Some, None, cond, false, sym, refl, subst, rules}
+use Rattle.std.specs.Prelude.{Err, nat_lt, length}
+use Rattle.mc_base.specs.Letter.{PlainLetter, packet}
+use Rattle.mc_base.specs.Limits.{item_size}
+use Rattle.mc_base.specs.declared.refusal.Refusal.TheVariants.{NoBuffer}
+use Rattle.board_model.specs.Answer.{Post, channel_at, lacks_buffers, post, puts_of, refusal, success_puts}
 use Rattle.board_model.specs.DomainCall.{DomainCall, packet_from}
-use Rattle.board_model.specs.Journal.{agrees, noted_all}
-use Rattle.board_model.specs.Serial.{put_entry}
-use Rattle.board_model.specs.State.{ChannelEnd, live_at, place_at}
+use Rattle.board_model.specs.State.{ChannelEnd, place_at}
 use Rattle.packet_channel.specs.End.{end_of}
 use Rattle.domain_parts.specs.Calls.{sent}
-use Rattle.domain_parts.specs.CallSteps.{Acts, putting_all}
+use Rattle.domain_parts.specs.CallSteps.{Acts}
 use Rattle.domain_parts.specs.Parts.{state_of}
-use Rattle.domain_parts.specs.Steps.{Did, Step}
-use Rattle.domain_parts.proofs.Calling.{puts-done}
-use Rattle.domain_parts.proofs.Channels.{answered-none, answered-word, data-words, lacks-none, or_then}
-use Rattle.domain_parts.proofs.DataMeaning.{data-means, data-puts}
-use Rattle.domain_parts.proofs.OneFrame.{IsSingle}
-use Rattle.domain_parts.proofs.Steps.{free-place, not-zero}
-use Rattle.domain_parts.proofs.Stepping.{acts-done, acts-refused}
+use Rattle.domain_parts.proofs.Calling.{nothing-noted}
+use Rattle.domain_parts.proofs.DataMeaning.{data-means, data-puts, packet-lacks, packet-refused}
+use Rattle.domain_parts.proofs.Posting.{posted-place, sent-acts, sent-told}
+use Rattle.domain_parts.proofs.Stepping.{acts-refused}
 use Rattle.domain_parts.proofs.holdings.Holdings.put_packet.Given.{Over}
 use Rattle.domain_parts.proofs.holdings.Holdings.put_packet.Goals as goal
 
 -- ---- a word of the end
 
 word-holds : (g : Over) (c : goal.After-from_residual g) → refusal (state_of c.args.self.now.parts) c.args.at.node (packet_from c.args.at.port c.args.bytes.now) ≡ Some c.in_err-may_send.field-0.0
-word-holds g c =
-    let s = state_of c.args.self.now.parts in
-    let end = end_of c.in-Some-channel_at.channel in
-    let rest = cond (nat_lt item_size (length c.args.bytes.now)) (Some PktSize) (cond (lacks_buffers s (success_puts s c.args.at.node (packet_from c.args.at.port c.args.bytes.now))) (Some NoBuffer) None) in
-    let word = answered-word _ c.in_err-may_send.field-0.0 (sym c.in_err-may_send.was ∙ c.may_send.ensures) in
-    data-words s c.args.at.node c.args.at.port c.in-Some.place end (sym c.in-Some.ensures.place) (sym c.in-Some-channel_at.ensures.there) (sends Packet) rest
-    ∙ ap (λ (o : Option Refusal). or_then o rest) word
+word-holds g c = packet-refused (state_of c.args.self.now.parts) c.args.at c.in-Some.place (end_of c.in-Some-channel_at.channel) (sym c.in-Some.ensures.place) (sym c.in-Some-channel_at.ensures.there) c.args.bytes.now c.in_err-may_send.field-0.0 (sym c.in_err-may_send.was ∙ c.may_send.ensures)
 
 pub returns-in_err-may_send-clause-acts : goal.returns-in_err-may_send-clause-acts
 returns-in_err-may_send-clause-acts g c =
@@ -51,14 +32,11 @@ returns-in_err-may_send-clause-acts g c =
     (acts-refused g.P.PeerLane.Moved c.args.at.node call old old word (word-holds g c) refl)
 
 pub returns-in_err-may_send-clause-told : goal.returns-in_err-may_send-clause-told
-returns-in_err-may_send-clause-told g c =
-    let s = state_of c.args.self.now.parts in
-    let call = packet_from c.args.at.port c.args.bytes.now in
-    ap (λ (o : Option Refusal). noted_all c.args.journal.now.lines (map put_entry (unless_refused {A = List (ℕ × List ℕ)} o [] (success_puts s c.args.at.node call)))) (sym (word-holds g c))
+returns-in_err-may_send-clause-told g c = nothing-noted (state_of c.args.self.now.parts) c.args.at.node (packet_from c.args.at.port c.args.bytes.now) c.in_err-may_send.field-0.0 c.args.journal.now.lines (word-holds g c)
 
--- ---- it is sent
+-- ---- its lane has buffers, or lacks them
 
-module _ (g : Over) (c : goal.After-put_letter g) where
+module _ (g : Over) (c : goal.After-put_item g) where
   abbrev end : ChannelEnd
   end = end_of c.in-Some-channel_at.channel
 
@@ -68,8 +46,8 @@ module _ (g : Over) (c : goal.After-put_letter g) where
   abbrev letter : ℕ → PlainLetter
   letter number = packet number c.args.bytes.now
 
-  abbrev frame : List ℕ
-  frame = made c.address_at-source.result end.peer_address (spelling (letter end.number))
+  abbrev sends : Post
+  sends = post end.peer c.address_at.result end.peer_address (letter end.number)
 
   there : place_at (state_of c.args.self.now.parts) c.args.at ≡ Some c.in-Some.place
   there = sym c.in-Some.ensures.place
@@ -77,55 +55,23 @@ module _ (g : Over) (c : goal.After-put_letter g) where
   has : channel_at (state_of c.args.self.now.parts) c.args.at ≡ Some end
   has = sym c.in-Some-channel_at.ensures.there
 
-  free : 0 < c.free_to.result
-  free = not-zero c.free_to.result c.if-free_to-eq0.false
-
-  peer : (j : ℕ) × (Some j ≡ position (λ x. x.number == end.peer) c.args.self.now.parts.peers)
-  peer = free-place c.args.self.now.parts end.peer (subst (λ (n : ℕ). 0 < n) c.free_to.ensures free)
-
   short : nat_lt item_size (length c.args.bytes.now) ≡ false
   short = search rules
 
-  fits : nat_le (length c.args.bytes.now) single_size ≡ true
-  fits = le-leb (length c.args.bytes.now) single_size (ltb-false item_size (length c.args.bytes.now) short)
+  word : refusal (state_of c.args.self.now.parts) c.args.at.node call ≡ cond (lacks_buffers (state_of c.args.self.now.parts) (success_puts (state_of c.args.self.now.parts) c.args.at.node call)) (Some NoBuffer) None
+  word = packet-lacks (state_of c.args.self.now.parts) c.args.at c.in-Some.place end there has c.args.bytes.now (sym c.in_ok-may_send.was ∙ c.may_send.ensures) short
 
-  -- it goes in one frame, whatever its channel
-  abbrev frames_by : Bool → ℕ → List (List ℕ)
-  frames_by one number = cond one (spelling (letter number) ∷ []) (map piece_spelling (parts_of (of_packet number) c.args.bytes.now))
-
-  single : (number : ℕ) → IsSingle (letter number)
-  single number = ap (λ (b : Bool). frames_by b number) fits
-
-  changes : success_changes (state_of c.args.self.now.parts) c.args.at.node call ≡ at_end (live_at (state_of c.args.self.now.parts) c.args.at) (λ e d. buffers_used d.peer 1 ∷ [])
-  changes = ap (λ (b : Bool). at_end (live_at (state_of c.args.self.now.parts) c.args.at) (λ e d. buffers_used d.peer (length (frames_by b d.number)) ∷ [])) fits
-
-  frames : success_puts (state_of c.args.self.now.parts) c.args.at.node call ≡ (end.peer, frame) ∷ []
-  frames = data-puts c.args.self.now.parts c.in-Some.ensures.sound c.args.at c.in-Some.place there end has c.address_at-source.result c.address_at-source.ensures peer.0 peer.1 call letter refl refl (single end.number)
-
-  unrefused : refusal (state_of c.args.self.now.parts) c.args.at.node call ≡ None
-  unrefused =
-      let s = state_of c.args.self.now.parts in
-      let rest = cond (nat_lt item_size (length c.args.bytes.now)) (Some PktSize) (cond (lacks_buffers s (success_puts s c.args.at.node (packet_from c.args.at.port c.args.bytes.now))) (Some NoBuffer) None) in
-      data-words s c.args.at.node c.args.at.port c.in-Some.place end there has (sends Packet) rest
-      ∙ ap (λ (o : Option Refusal). or_then o rest) (answered-none _ (sym c.in_ok-may_send.was ∙ c.may_send.ensures))
-      ∙ ap (λ (b : Bool). cond b (Some PktSize) (cond (lacks_buffers s (success_puts s c.args.at.node (packet_from c.args.at.port c.args.bytes.now))) (Some NoBuffer) None)) short
-      ∙ ap (λ (b : Bool). cond b (Some NoBuffer) None) (ap (lacks_buffers s) frames ∙ lacks-none s (end.peer, frame) (subst (λ (n : ℕ). 0 < n) c.free_to.ensures free))
+  frames : success_puts (state_of c.args.self.now.parts) c.args.at.node call ≡ puts_of sends
+  frames = data-puts c.args.self.now.parts c.in-Some.ensures.sound c.args.at c.in-Some.place there end has c.address_at.result c.address_at.ensures call letter refl refl
 
 pub returns-clause-acts : goal.returns-clause-acts
 returns-clause-acts g c =
-    let M = g.P.PeerLane.Moved in
     let old = c.args.self.now in
-    let i = c.in-Some.place in
-    let puts = frames g c in
-    acts-done M c.args.at.node (call g c) old c.put_letter.new.self agrees None (unrefused g c) refl
-    (record {
-      did = subst (λ (cs : List Step). Did M cs old c.put_letter.new.self) (sym (ap putting_all puts)) c.put_letter.ensures.did;
-      means = data-means old.parts c.in-Some.ensures.sound c.args.at i (there g c) (end g c) (has g c) c.address_at-source.result c.address_at-source.ensures (peer g c).0 (peer g c).1 (call g c) (letter g c) puts refl (changes g c) refl refl refl refl;
-    })
+    sent-acts g.P.PeerLane.Moved c.args.at.node (call g c) (sends g c) old c.put_item.new.self (word g c) (frames g c) refl refl
+    (λ enough.
+    let at = posted-place old.parts (sends g c) enough in
+    data-means old.parts c.in-Some.ensures.sound c.args.at c.in-Some.place (there g c) (end g c) (has g c) c.address_at.result c.address_at.ensures (call g c) (letter g c) at.0 at.1 (frames g c) refl refl refl refl refl refl)
+    c.put_item.result c.put_item.ensures.full c.put_item.ensures.word c.put_item.ensures.stays c.put_item.ensures.did
 
 pub returns-clause-told : goal.returns-clause-told
-returns-clause-told g c =
-    let s = state_of c.args.self.now.parts in
-    let lines = c.args.journal.now.lines in
-    c.put_letter.ensures.told
-    ∙ ap (λ (ps : List (ℕ × List ℕ)). noted_all lines (map put_entry ps)) (sym (puts-done s c.args.at.node (call g c) (unrefused g c) ∙ frames g c))
+returns-clause-told g c = sent-told (state_of c.args.self.now.parts) c.args.at.node (call g c) (sends g c) (word g c) (frames g c) c.args.journal.now.lines c.put_item.new.journal.lines c.put_item.result c.put_item.ensures.full c.put_item.ensures.silent c.put_item.ensures.told

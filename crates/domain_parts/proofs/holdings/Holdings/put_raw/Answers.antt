@@ -1,15 +1,14 @@
-use Rattle.std.proofs.Common.{◌≡◌, ◌<◌, ◌∙◌, ℕ, true, false, List, [], ap, sym, refl, subst, map, None, Some, Option, rules}
+use Rattle.std.proofs.Common.{◌≡◌, ◌<◌, ◌∙◌, ℕ, true, false, List, ap, sym, refl, subst, map, None, rules}
 use Rattle.std.specs.Prelude.{is_none, is_some}
 use Rattle.mc_base.specs.Fault.{fault}
-use Rattle.mc_base.specs.declared.refusal.Refusal.{Refusal}
 use Rattle.mc_base.specs.declared.refusal.Refusal.TheVariants.{LinkInvalid, NoBuffer, RawSound}
-use Rattle.board_model.specs.Answer.{puts, refusal, success_puts, unless_refused}
+use Rattle.board_model.specs.Answer.{refusal}
 use Rattle.board_model.specs.DomainCall.{raw_to}
-use Rattle.board_model.specs.Journal.{Line, agrees, noted_all}
+use Rattle.board_model.specs.Journal.{agrees, noted_all}
 use Rattle.board_model.specs.Serial.{put_entry}
-use Rattle.board_model.specs.State.{DomainState, place_of_peer}
+use Rattle.board_model.specs.State.{place_of_peer}
 use Rattle.domain_parts.specs.Parts.{state_of}
-use Rattle.domain_parts.proofs.Calling.{puts-done}
+use Rattle.domain_parts.proofs.Calling.{nothing-noted, puts-done}
 use Rattle.domain_parts.proofs.Meaning.{raw-means}
 use Rattle.domain_parts.proofs.RawWords.{raw-done, raw-far, raw-full, raw-sound}
 use Rattle.domain_parts.proofs.Steps.{free-place, not-zero}
@@ -19,9 +18,6 @@ use Rattle.domain_parts.proofs.holdings.Holdings.put_raw.Goals as goal
 
 -- ---- it is refused
 
-nothing_told : (s : DomainState) (to : ℕ) (bytes : List ℕ) (lines : List Line) (word : Refusal) → refusal s 0 (raw_to to bytes) ≡ Some word → lines ≡ noted_all lines (map put_entry (puts s 0 (raw_to to bytes)))
-nothing_told s to bytes lines word e = ap (λ (o : Option Refusal). noted_all lines (map put_entry (unless_refused {A = List (ℕ × List ℕ)} o [] (success_puts s 0 (raw_to to bytes))))) (sym e)
-
 pub returns-then-not-has_peer-clause-acts : goal.returns-then-not-has_peer-clause-acts
 returns-then-not-has_peer-clause-acts g c =
     let old = c.args.self.now in
@@ -30,7 +26,7 @@ returns-then-not-has_peer-clause-acts g c =
 pub returns-then-not-has_peer-clause-told : goal.returns-then-not-has_peer-clause-told
 returns-then-not-has_peer-clause-told g c =
     let s = state_of c.args.self.now.parts in
-    nothing_told s c.args.peer c.args.frame.now c.args.journal.now.lines LinkInvalid (raw-far s 0 c.args.peer c.args.frame.now (sym c.has_peer.ensures.peer ∙ c.if-not-has_peer.true))
+    nothing-noted s 0 (raw_to c.args.peer c.args.frame.now) LinkInvalid c.args.journal.now.lines (raw-far s 0 c.args.peer c.args.frame.now (sym c.has_peer.ensures.peer ∙ c.if-not-has_peer.true))
 
 pub returns-then-is_none-clause-acts : goal.returns-then-is_none-clause-acts
 returns-then-is_none-clause-acts g c =
@@ -42,7 +38,7 @@ pub returns-then-is_none-clause-told : goal.returns-then-is_none-clause-told
 returns-then-is_none-clause-told g c =
     let s = state_of c.args.self.now.parts in
     let sound : is_none (fault c.args.frame.now) ≡ true = search rules in
-    nothing_told s c.args.peer c.args.frame.now c.args.journal.now.lines RawSound (raw-sound s 0 c.args.peer c.args.frame.now (sym c.has_peer.ensures.peer ∙ c.if-not-has_peer.false) sound)
+    nothing-noted s 0 (raw_to c.args.peer c.args.frame.now) RawSound c.args.journal.now.lines (raw-sound s 0 c.args.peer c.args.frame.now (sym c.has_peer.ensures.peer ∙ c.if-not-has_peer.false) sound)
 
 pub returns-then-free_to-eq0-clause-acts : goal.returns-then-free_to-eq0-clause-acts
 returns-then-free_to-eq0-clause-acts g c =
@@ -54,7 +50,7 @@ pub returns-then-free_to-eq0-clause-told : goal.returns-then-free_to-eq0-clause-
 returns-then-free_to-eq0-clause-told g c =
     let s = state_of c.args.self.now.parts in
     let unsound : is_none (fault c.args.frame.now) ≡ false = search rules in
-    nothing_told s c.args.peer c.args.frame.now c.args.journal.now.lines NoBuffer (raw-full s 0 c.args.peer c.args.frame.now (sym c.has_peer.ensures.peer ∙ c.if-not-has_peer.false) unsound (sym c.free_to.ensures ∙ c.if-free_to-eq0.true))
+    nothing-noted s 0 (raw_to c.args.peer c.args.frame.now) NoBuffer c.args.journal.now.lines (raw-full s 0 c.args.peer c.args.frame.now (sym c.has_peer.ensures.peer ∙ c.if-not-has_peer.false) unsound (sym c.free_to.ensures ∙ c.if-free_to-eq0.true))
 
 -- ---- it is put
 

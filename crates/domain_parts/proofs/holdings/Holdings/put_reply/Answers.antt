@@ -92,10 +92,10 @@ returns-clause-puts g c =
       f,
       record {
         owed =
-            ap (λ (y : Peer LaneSeen). state.owed_to d.table.domain (peer_in plain d.table y)) was
+            ap (λ (y : Peer LaneSeen). state.owed_to d.table.domain (peer_in plain [] d.table y)) was
             ∙ owed
-            ∙ ap (λ (rs : List Reply). f ∷ state.owed_to d.table.domain (peer_in plain d.table (record (peer_seen (v g) x) { replies = rs }))) (sym c.remove_first.ensures)
-            ∙ ap (λ (y : Peer LaneSeen). f ∷ state.owed_to d.table.domain (peer_in plain d.table y)) (sym now);
+            ∙ ap (λ (rs : List Reply). f ∷ state.owed_to d.table.domain (peer_in plain [] d.table (record (peer_seen (v g) x) { replies = rs }))) (sym c.remove_first.ensures)
+            ∙ ap (λ (y : Peer LaneSeen). f ∷ state.owed_to d.table.domain (peer_in plain [] d.table y)) (sym now);
         doing = doing;
         told = subst (λ (n : ℕ). c.note.new.self.lines ≡ lines ++ put_lines c.args.begun n (f ∷ [])) (sym number) told;
       },

@@ -5,7 +5,7 @@ use Rattle.mc_base.specs.Letter.{PlainLetter, spelling, scalar}
 use Rattle.mc_base.specs.declared.channel.Kind.TheVariants.{Scalar}
 use Rattle.mc_base.specs.declared.refusal.Refusal.{Refusal}
 use Rattle.mc_base.specs.declared.refusal.Refusal.TheVariants.{NoBuffer}
-use Rattle.board_model.specs.Answer.{channel_at, lacks_buffers, refusal, success_puts, unless_refused}
+use Rattle.board_model.specs.Answer.{channel_at, lacks_buffers, refusal, success_puts}
 use Rattle.board_model.specs.ChannelEnds.{sends}
 use Rattle.board_model.specs.DomainCall.{DomainCall, scalar_from}
 use Rattle.board_model.specs.Journal.{agrees, noted_all}
@@ -16,7 +16,7 @@ use Rattle.domain_parts.specs.Calls.{sent}
 use Rattle.domain_parts.specs.CallSteps.{Acts, putting_all}
 use Rattle.domain_parts.specs.Parts.{state_of}
 use Rattle.domain_parts.specs.Steps.{Did, Step}
-use Rattle.domain_parts.proofs.Calling.{puts-done}
+use Rattle.domain_parts.proofs.Calling.{nothing-noted, puts-done}
 use Rattle.domain_parts.proofs.Channels.{answered-none, answered-word, data-words, lacks-none, or_then}
 use Rattle.domain_parts.proofs.DataMeaning.{data-means, data-puts}
 use Rattle.domain_parts.proofs.Steps.{free-place, not-zero}
@@ -46,9 +46,7 @@ returns-in_err-may_send-clause-acts g c =
 
 pub returns-in_err-may_send-clause-told : goal.returns-in_err-may_send-clause-told
 returns-in_err-may_send-clause-told g c =
-    let s = state_of c.args.self.now.parts in
-    let call = scalar_from c.args.at.port c.args.bits c.args.value in
-    ap (λ (o : Option Refusal). noted_all c.args.journal.now.lines (map put_entry (unless_refused {A = List (ℕ × List ℕ)} o [] (success_puts s c.args.at.node call)))) (sym (word-holds g c))
+    nothing-noted (state_of c.args.self.now.parts) c.args.at.node (scalar_from c.args.at.port c.args.bits c.args.value) c.in_err-may_send.field-0.0 c.args.journal.now.lines (word-holds g c)
 
 -- ---- it is sent
 
@@ -78,7 +76,7 @@ module _ (g : Over) (c : goal.After-put_letter g) where
   peer = free-place c.args.self.now.parts end.peer (subst (λ (n : ℕ). 0 < n) c.free_to.ensures free)
 
   frames : success_puts (state_of c.args.self.now.parts) c.args.at.node call ≡ (end.peer, frame) ∷ []
-  frames = data-puts c.args.self.now.parts c.in-Some.ensures.sound c.args.at c.in-Some.place there end has c.address_at-source.result c.address_at-source.ensures peer.0 peer.1 call letter refl refl refl
+  frames = data-puts c.args.self.now.parts c.in-Some.ensures.sound c.args.at c.in-Some.place there end has c.address_at-source.result c.address_at-source.ensures call letter refl refl
 
   unrefused : refusal (state_of c.args.self.now.parts) c.args.at.node call ≡ None
   unrefused =
@@ -97,7 +95,7 @@ returns-clause-acts g c =
     acts-done M c.args.at.node (call g c) old c.put_letter.new.self agrees None (unrefused g c) refl
     (record {
       did = subst (λ (cs : List Step). Did M cs old c.put_letter.new.self) (sym (ap putting_all puts)) c.put_letter.ensures.did;
-      means = data-means old.parts c.in-Some.ensures.sound c.args.at i (there g c) (end g c) (has g c) c.address_at-source.result c.address_at-source.ensures (peer g c).0 (peer g c).1 (call g c) (letter g c) puts refl refl refl refl refl refl;
+      means = data-means old.parts c.in-Some.ensures.sound c.args.at i (there g c) (end g c) (has g c) c.address_at-source.result c.address_at-source.ensures (call g c) (letter g c) (peer g c).0 (peer g c).1 puts refl refl refl refl refl refl;
     })
 
 pub returns-clause-told : goal.returns-clause-told

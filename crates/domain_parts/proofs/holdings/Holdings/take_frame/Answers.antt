@@ -17,7 +17,7 @@ use Rattle.domain_parts.specs.LaneSeen.{LaneSeen}
 use Rattle.domain_parts.specs.Parts.{Holding, Parts, holding_in, parts_in, state_of}
 use Rattle.domain_parts.specs.Records.{with_waiting_at, all_waiting}
 use Rattle.domain_parts.specs.Verdicts.{Desk, IsVerdict, desk, fate_of}
-use Rattle.domain_parts.proofs.Taking.{away-slot, unqueued-slot, back-keeps, back-takes, given-out, handed-keeps, handed-takes, queued-keeps, queued-takes, room-left, shows}
+use Rattle.domain_parts.proofs.Taking.{away-slot, unqueued-slot, back-keeps, back-takes, given-out, handed-keeps, handed-takes, queued-keeps, queued-takes, room-left, shows, shut}
 use Rattle.domain_parts.proofs.Turning.{there-read}
 use Rattle.domain_parts.proofs.holdings.Holdings.take_frame.Given.{Over}
 use Rattle.domain_parts.proofs.holdings.Holdings.take_frame.Goals as goal
@@ -40,7 +40,7 @@ enqueue-slot-requires-clause-away g c =
     let bytes = take c.take-buffer.result.1 c.take-buffer.result.0.bytes in
     let frame : c.split_at.result.0.now ≡ bytes = c.split_at.ensures.front ∙ ap (take c.take-buffer.result.1) c.bytes.ensures.value in
     let took = c.take-buffer.ensures in
-    let all = subst (λ (f : List ℕ). IsVerdict (state_of (p g d)) (Some c.take-buffer.result.0.number) x.number f c.deal-verdict.result (desk d.endpoints d.requests x.known x.replies) (desk c.deal-verdict.new.endpoints c.deal-verdict.new.requests c.deal-verdict.new.known c.deal-verdict.new.replies)) frame (c.deal-verdict.ensures d.book (state_of (p g d)) (Some c.take-buffer.result.0.number) (shows g.P.PeerLane.Moved g.met.P.PeerLane.none (v g) d.book d.endpoints d.requests d.table d.peers.items c.self.invariant c.args.place x at c.take-buffer.result.0 c.take-buffer.result.1 lines lines')) in
+    let all = subst (λ (f : List ℕ). IsVerdict (state_of (p g d)) (Some c.take-buffer.result.0.number) x.number f c.deal_alone-verdict.result (desk d.endpoints d.requests x.known x.replies) (desk c.deal_alone-verdict.new.endpoints c.deal_alone-verdict.new.requests c.deal_alone-verdict.new.known c.deal_alone-verdict.new.replies)) frame (c.deal_alone-verdict.ensures d.book (state_of (p g d)) (Some c.take-buffer.result.0.number) (shows g.P.PeerLane.Moved g.met.P.PeerLane.none (v g) d.book d.endpoints d.requests d.table d.peers.items c.self.invariant c.args.place x at c.take-buffer.result.0 c.take-buffer.result.1 lines lines') (shut g.P.PeerLane.Moved g.met.P.PeerLane.none (v g) d.book d.endpoints d.requests d.table d.peers.items c.self.invariant c.args.place x at c.take-buffer.result.0 c.take-buffer.result.1 lines lines')) in
     let is = rw c.in-Queued.is at all in
     away-slot g.P.PeerLane.Moved g.met.P.PeerLane.none (v g) d.book d.endpoints d.requests d.table d.peers.items c.self.invariant c.args.place x at c.take-buffer.result.0 c.take-buffer.result.1 lines lines' c.take-buffer.new.self took.seen took.moved took.apart
 
@@ -54,7 +54,7 @@ enqueue-slot-requires-clause-unqueued g c =
     let bytes = take c.take-buffer.result.1 c.take-buffer.result.0.bytes in
     let frame : c.split_at.result.0.now ≡ bytes = c.split_at.ensures.front ∙ ap (take c.take-buffer.result.1) c.bytes.ensures.value in
     let took = c.take-buffer.ensures in
-    let all = subst (λ (f : List ℕ). IsVerdict (state_of (p g d)) (Some c.take-buffer.result.0.number) x.number f c.deal-verdict.result (desk d.endpoints d.requests x.known x.replies) (desk c.deal-verdict.new.endpoints c.deal-verdict.new.requests c.deal-verdict.new.known c.deal-verdict.new.replies)) frame (c.deal-verdict.ensures d.book (state_of (p g d)) (Some c.take-buffer.result.0.number) (shows g.P.PeerLane.Moved g.met.P.PeerLane.none (v g) d.book d.endpoints d.requests d.table d.peers.items c.self.invariant c.args.place x at c.take-buffer.result.0 c.take-buffer.result.1 lines lines')) in
+    let all = subst (λ (f : List ℕ). IsVerdict (state_of (p g d)) (Some c.take-buffer.result.0.number) x.number f c.deal_alone-verdict.result (desk d.endpoints d.requests x.known x.replies) (desk c.deal_alone-verdict.new.endpoints c.deal_alone-verdict.new.requests c.deal_alone-verdict.new.known c.deal_alone-verdict.new.replies)) frame (c.deal_alone-verdict.ensures d.book (state_of (p g d)) (Some c.take-buffer.result.0.number) (shows g.P.PeerLane.Moved g.met.P.PeerLane.none (v g) d.book d.endpoints d.requests d.table d.peers.items c.self.invariant c.args.place x at c.take-buffer.result.0 c.take-buffer.result.1 lines lines') (shut g.P.PeerLane.Moved g.met.P.PeerLane.none (v g) d.book d.endpoints d.requests d.table d.peers.items c.self.invariant c.args.place x at c.take-buffer.result.0 c.take-buffer.result.1 lines lines')) in
     let is = rw c.in-Queued.is at all in
     subst IsNone (sym (unqueued-slot g.P.PeerLane.Moved g.met.P.PeerLane.none (v g) d.book d.endpoints d.requests d.table d.peers.items c.self.invariant c.args.place x at c.take-buffer.result.0 c.take-buffer.result.1 lines lines' c.take-buffer.new.self took.seen took.moved took.apart)) refl
 
@@ -68,7 +68,7 @@ enqueue-slot-requires-clause-inside g c =
     let bytes = take c.take-buffer.result.1 c.take-buffer.result.0.bytes in
     let frame : c.split_at.result.0.now ≡ bytes = c.split_at.ensures.front ∙ ap (take c.take-buffer.result.1) c.bytes.ensures.value in
     let took = c.take-buffer.ensures in
-    let all = subst (λ (f : List ℕ). IsVerdict (state_of (p g d)) (Some c.take-buffer.result.0.number) x.number f c.deal-verdict.result (desk d.endpoints d.requests x.known x.replies) (desk c.deal-verdict.new.endpoints c.deal-verdict.new.requests c.deal-verdict.new.known c.deal-verdict.new.replies)) frame (c.deal-verdict.ensures d.book (state_of (p g d)) (Some c.take-buffer.result.0.number) (shows g.P.PeerLane.Moved g.met.P.PeerLane.none (v g) d.book d.endpoints d.requests d.table d.peers.items c.self.invariant c.args.place x at c.take-buffer.result.0 c.take-buffer.result.1 lines lines')) in
+    let all = subst (λ (f : List ℕ). IsVerdict (state_of (p g d)) (Some c.take-buffer.result.0.number) x.number f c.deal_alone-verdict.result (desk d.endpoints d.requests x.known x.replies) (desk c.deal_alone-verdict.new.endpoints c.deal_alone-verdict.new.requests c.deal_alone-verdict.new.known c.deal_alone-verdict.new.replies)) frame (c.deal_alone-verdict.ensures d.book (state_of (p g d)) (Some c.take-buffer.result.0.number) (shows g.P.PeerLane.Moved g.met.P.PeerLane.none (v g) d.book d.endpoints d.requests d.table d.peers.items c.self.invariant c.args.place x at c.take-buffer.result.0 c.take-buffer.result.1 lines lines') (shut g.P.PeerLane.Moved g.met.P.PeerLane.none (v g) d.book d.endpoints d.requests d.table d.peers.items c.self.invariant c.args.place x at c.take-buffer.result.0 c.take-buffer.result.1 lines lines')) in
     let is = rw c.in-Queued.is at all in
     let short = is.1.short in omega (arith, short)
 
@@ -82,7 +82,7 @@ queue_last-requires-clause-within g c =
     let bytes = take c.take-buffer.result.1 c.take-buffer.result.0.bytes in
     let frame : c.split_at.result.0.now ≡ bytes = c.split_at.ensures.front ∙ ap (take c.take-buffer.result.1) c.bytes.ensures.value in
     let took = c.take-buffer.ensures in
-    let all = subst (λ (f : List ℕ). IsVerdict (state_of (p g d)) (Some c.take-buffer.result.0.number) x.number f c.deal-verdict.result (desk d.endpoints d.requests x.known x.replies) (desk c.deal-verdict.new.endpoints c.deal-verdict.new.requests c.deal-verdict.new.known c.deal-verdict.new.replies)) frame (c.deal-verdict.ensures d.book (state_of (p g d)) (Some c.take-buffer.result.0.number) (shows g.P.PeerLane.Moved g.met.P.PeerLane.none (v g) d.book d.endpoints d.requests d.table d.peers.items c.self.invariant c.args.place x at c.take-buffer.result.0 c.take-buffer.result.1 lines lines')) in
+    let all = subst (λ (f : List ℕ). IsVerdict (state_of (p g d)) (Some c.take-buffer.result.0.number) x.number f c.deal_alone-verdict.result (desk d.endpoints d.requests x.known x.replies) (desk c.deal_alone-verdict.new.endpoints c.deal_alone-verdict.new.requests c.deal_alone-verdict.new.known c.deal_alone-verdict.new.replies)) frame (c.deal_alone-verdict.ensures d.book (state_of (p g d)) (Some c.take-buffer.result.0.number) (shows g.P.PeerLane.Moved g.met.P.PeerLane.none (v g) d.book d.endpoints d.requests d.table d.peers.items c.self.invariant c.args.place x at c.take-buffer.result.0 c.take-buffer.result.1 lines lines') (shut g.P.PeerLane.Moved g.met.P.PeerLane.none (v g) d.book d.endpoints d.requests d.table d.peers.items c.self.invariant c.args.place x at c.take-buffer.result.0 c.take-buffer.result.1 lines lines')) in
     let is = rw c.in-Queued.is at all in
     let within = is.0.within in let same = ap (λ (z : Desk). length z.records.endpoints) is.3 in let long = length-map d.endpoints.endpoints (endpoint_in d.book) in omega (arith, within, same, long)
 
@@ -96,7 +96,7 @@ queue_last-requires-clause-room g c =
     let bytes = take c.take-buffer.result.1 c.take-buffer.result.0.bytes in
     let frame : c.split_at.result.0.now ≡ bytes = c.split_at.ensures.front ∙ ap (take c.take-buffer.result.1) c.bytes.ensures.value in
     let took = c.take-buffer.ensures in
-    let all = subst (λ (f : List ℕ). IsVerdict (state_of (p g d)) (Some c.take-buffer.result.0.number) x.number f c.deal-verdict.result (desk d.endpoints d.requests x.known x.replies) (desk c.deal-verdict.new.endpoints c.deal-verdict.new.requests c.deal-verdict.new.known c.deal-verdict.new.replies)) frame (c.deal-verdict.ensures d.book (state_of (p g d)) (Some c.take-buffer.result.0.number) (shows g.P.PeerLane.Moved g.met.P.PeerLane.none (v g) d.book d.endpoints d.requests d.table d.peers.items c.self.invariant c.args.place x at c.take-buffer.result.0 c.take-buffer.result.1 lines lines')) in
+    let all = subst (λ (f : List ℕ). IsVerdict (state_of (p g d)) (Some c.take-buffer.result.0.number) x.number f c.deal_alone-verdict.result (desk d.endpoints d.requests x.known x.replies) (desk c.deal_alone-verdict.new.endpoints c.deal_alone-verdict.new.requests c.deal_alone-verdict.new.known c.deal_alone-verdict.new.replies)) frame (c.deal_alone-verdict.ensures d.book (state_of (p g d)) (Some c.take-buffer.result.0.number) (shows g.P.PeerLane.Moved g.met.P.PeerLane.none (v g) d.book d.endpoints d.requests d.table d.peers.items c.self.invariant c.args.place x at c.take-buffer.result.0 c.take-buffer.result.1 lines lines') (shut g.P.PeerLane.Moved g.met.P.PeerLane.none (v g) d.book d.endpoints d.requests d.table d.peers.items c.self.invariant c.args.place x at c.take-buffer.result.0 c.take-buffer.result.1 lines lines')) in
     let is = rw c.in-Queued.is at all in
     subst (λ (z : Desk). length (all_waiting z.records.endpoints) < z.records.room) (sym is.3)
     (room-left g.P.PeerLane.Moved g.met.P.PeerLane.none (v g) d.book d.endpoints d.requests d.table d.peers.items c.self.invariant c.args.place x at c.take-buffer.result.0 c.take-buffer.result.1 lines lines' c.take-buffer.new.self took.seen took.moved took.apart)
@@ -111,11 +111,11 @@ invariant_of-self g c =
     let bytes = take c.take-buffer.result.1 c.take-buffer.result.0.bytes in
     let frame : c.split_at.result.0.now ≡ bytes = c.split_at.ensures.front ∙ ap (take c.take-buffer.result.1) c.bytes.ensures.value in
     let took = c.take-buffer.ensures in
-    let all = subst (λ (f : List ℕ). IsVerdict (state_of (p g d)) (Some c.take-buffer.result.0.number) x.number f c.deal-verdict.result (desk d.endpoints d.requests x.known x.replies) (desk c.deal-verdict.new.endpoints c.deal-verdict.new.requests c.deal-verdict.new.known c.deal-verdict.new.replies)) frame (c.deal-verdict.ensures d.book (state_of (p g d)) (Some c.take-buffer.result.0.number) (shows g.P.PeerLane.Moved g.met.P.PeerLane.none (v g) d.book d.endpoints d.requests d.table d.peers.items c.self.invariant c.args.place x at c.take-buffer.result.0 c.take-buffer.result.1 lines lines')) in
+    let all = subst (λ (f : List ℕ). IsVerdict (state_of (p g d)) (Some c.take-buffer.result.0.number) x.number f c.deal_alone-verdict.result (desk d.endpoints d.requests x.known x.replies) (desk c.deal_alone-verdict.new.endpoints c.deal_alone-verdict.new.requests c.deal_alone-verdict.new.known c.deal_alone-verdict.new.replies)) frame (c.deal_alone-verdict.ensures d.book (state_of (p g d)) (Some c.take-buffer.result.0.number) (shows g.P.PeerLane.Moved g.met.P.PeerLane.none (v g) d.book d.endpoints d.requests d.table d.peers.items c.self.invariant c.args.place x at c.take-buffer.result.0 c.take-buffer.result.1 lines lines') (shut g.P.PeerLane.Moved g.met.P.PeerLane.none (v g) d.book d.endpoints d.requests d.table d.peers.items c.self.invariant c.args.place x at c.take-buffer.result.0 c.take-buffer.result.1 lines lines')) in
     let is = rw c.in-Queued.is at all in
     let records = c.queue_last.ensures ∙ ap (λ (z : Desk). with_waiting_at z.records c.in-Queued.at (waiting c.enqueue-slot.result c.in-Queued.priority)) is.3 ∙ ap (λ (s : Slot). with_waiting_at d.endpoints c.in-Queued.at (waiting s c.in-Queued.priority)) c.enqueue-slot.ensures.slot in
     let book = c.enqueue-slot.ensures.book ∙ ap (λ (s : Slot). with_queued d.book s (kept_in_buffer c.take-buffer.result.0 24 c.in-Queued.size)) c.enqueue-slot.ensures.slot in
-    queued-keeps g.P.PeerLane.Moved g.met.P.PeerLane.none (v g) d.book d.endpoints d.requests d.table d.peers.items c.self.invariant c.args.place x at c.take-buffer.result.0 c.take-buffer.result.1 lines lines' c.take-buffer.new.self took.seen took.moved took.apart c.in-Queued.size is.1 c.enqueue-slot.new.self book c.deal-verdict.new.known (ap (λ (z : Desk). z.names) is.3) c.deal-verdict.new.replies (ap (λ (z : Desk). z.replies) is.3) c.in-Queued.at c.in-Queued.priority is.0 is.2 c.queue_last.new.self c.deal-verdict.new.requests records (ap (λ (z : Desk). z.requests) is.3)
+    queued-keeps g.P.PeerLane.Moved g.met.P.PeerLane.none (v g) d.book d.endpoints d.requests d.table d.peers.items c.self.invariant c.args.place x at c.take-buffer.result.0 c.take-buffer.result.1 lines lines' c.take-buffer.new.self took.seen took.moved took.apart c.in-Queued.size is.1 c.enqueue-slot.new.self book c.deal_alone-verdict.new.known (ap (λ (z : Desk). z.names) is.3) c.deal_alone-verdict.new.replies (ap (λ (z : Desk). z.replies) is.3) c.in-Queued.at c.in-Queued.priority is.0 is.2 c.queue_last.new.self c.deal_alone-verdict.new.requests records (ap (λ (z : Desk). z.requests) is.3)
 
 pub returns-in-Queued-clause-takes : goal.returns-in-Queued-clause-takes
 returns-in-Queued-clause-takes g c =
@@ -127,13 +127,13 @@ returns-in-Queued-clause-takes g c =
     let bytes = take c.take-buffer.result.1 c.take-buffer.result.0.bytes in
     let frame : c.split_at.result.0.now ≡ bytes = c.split_at.ensures.front ∙ ap (take c.take-buffer.result.1) c.bytes.ensures.value in
     let took = c.take-buffer.ensures in
-    let all = subst (λ (f : List ℕ). IsVerdict (state_of (p g d)) (Some c.take-buffer.result.0.number) x.number f c.deal-verdict.result (desk d.endpoints d.requests x.known x.replies) (desk c.deal-verdict.new.endpoints c.deal-verdict.new.requests c.deal-verdict.new.known c.deal-verdict.new.replies)) frame (c.deal-verdict.ensures d.book (state_of (p g d)) (Some c.take-buffer.result.0.number) (shows g.P.PeerLane.Moved g.met.P.PeerLane.none (v g) d.book d.endpoints d.requests d.table d.peers.items c.self.invariant c.args.place x at c.take-buffer.result.0 c.take-buffer.result.1 lines lines')) in
+    let all = subst (λ (f : List ℕ). IsVerdict (state_of (p g d)) (Some c.take-buffer.result.0.number) x.number f c.deal_alone-verdict.result (desk d.endpoints d.requests x.known x.replies) (desk c.deal_alone-verdict.new.endpoints c.deal_alone-verdict.new.requests c.deal_alone-verdict.new.known c.deal_alone-verdict.new.replies)) frame (c.deal_alone-verdict.ensures d.book (state_of (p g d)) (Some c.take-buffer.result.0.number) (shows g.P.PeerLane.Moved g.met.P.PeerLane.none (v g) d.book d.endpoints d.requests d.table d.peers.items c.self.invariant c.args.place x at c.take-buffer.result.0 c.take-buffer.result.1 lines lines') (shut g.P.PeerLane.Moved g.met.P.PeerLane.none (v g) d.book d.endpoints d.requests d.table d.peers.items c.self.invariant c.args.place x at c.take-buffer.result.0 c.take-buffer.result.1 lines lines')) in
     let is = rw c.in-Queued.is at all in
     let told = c.note.ensures.lines ∙ ap (λ (f : List ℕ). lines ++ take_line x.number f c.fate-fate.result ∷ []) frame ∙ ap (λ (w : Fate). lines ++ take_line x.number bytes w ∷ []) (c.fate-fate.ensures ∙ ap fate_of c.in-Queued.is) in
     let records = c.queue_last.ensures ∙ ap (λ (z : Desk). with_waiting_at z.records c.in-Queued.at (waiting c.enqueue-slot.result c.in-Queued.priority)) is.3 ∙ ap (λ (s : Slot). with_waiting_at d.endpoints c.in-Queued.at (waiting s c.in-Queued.priority)) c.enqueue-slot.ensures.slot in
     let book = c.enqueue-slot.ensures.book ∙ ap (λ (s : Slot). with_queued d.book s (kept_in_buffer c.take-buffer.result.0 24 c.in-Queued.size)) c.enqueue-slot.ensures.slot in
-    subst (λ (h : Holding g.row.P.Denot). Takes g.P.PeerLane.Moved c.args.place 1 h (holding_in (v g) c.enqueue-slot.new.self c.queue_last.new.self c.deal-verdict.new.requests d.table (slice_set d.peers.items c.args.place (record x { ends = c.take-buffer.new.self; known = c.deal-verdict.new.known; replies = c.deal-verdict.new.replies }))) lines lines') c.self.view_is
-    (queued-takes g.P.PeerLane.Moved g.met.P.PeerLane.none (v g) d.book d.endpoints d.requests d.table d.peers.items c.self.invariant c.args.place x at c.take-buffer.result.0 c.take-buffer.result.1 lines lines' c.take-buffer.new.self took.seen took.moved took.apart c.in-Queued.size is.1 c.enqueue-slot.new.self book c.deal-verdict.new.known (ap (λ (z : Desk). z.names) is.3) c.deal-verdict.new.replies (ap (λ (z : Desk). z.replies) is.3) c.in-Queued.at c.in-Queued.priority is.0 is.2 c.queue_last.new.self c.deal-verdict.new.requests records (ap (λ (z : Desk). z.requests) is.3) told)
+    subst (λ (h : Holding g.row.P.Denot). Takes g.P.PeerLane.Moved c.args.place 1 h (holding_in (v g) c.enqueue-slot.new.self c.queue_last.new.self c.deal_alone-verdict.new.requests d.table (slice_set d.peers.items c.args.place (record x { ends = c.take-buffer.new.self; known = c.deal_alone-verdict.new.known; replies = c.deal_alone-verdict.new.replies }))) lines lines') c.self.view_is
+    (queued-takes g.P.PeerLane.Moved g.met.P.PeerLane.none (v g) d.book d.endpoints d.requests d.table d.peers.items c.self.invariant c.args.place x at c.take-buffer.result.0 c.take-buffer.result.1 lines lines' c.take-buffer.new.self took.seen took.moved took.apart c.in-Queued.size is.1 c.enqueue-slot.new.self book c.deal_alone-verdict.new.known (ap (λ (z : Desk). z.names) is.3) c.deal_alone-verdict.new.replies (ap (λ (z : Desk). z.replies) is.3) c.in-Queued.at c.in-Queued.priority is.0 is.2 c.queue_last.new.self c.deal_alone-verdict.new.requests records (ap (λ (z : Desk). z.requests) is.3) told)
 
 -- ---- it is handed to a request
 
@@ -147,7 +147,7 @@ enqueue-slot-requires-in-Handed-clause-away g c =
     let bytes = take c.take-buffer.result.1 c.take-buffer.result.0.bytes in
     let frame : c.split_at.result.0.now ≡ bytes = c.split_at.ensures.front ∙ ap (take c.take-buffer.result.1) c.bytes.ensures.value in
     let took = c.take-buffer.ensures in
-    let all = subst (λ (f : List ℕ). IsVerdict (state_of (p g d)) (Some c.take-buffer.result.0.number) x.number f c.deal-verdict.result (desk d.endpoints d.requests x.known x.replies) (desk c.deal-verdict.new.endpoints c.deal-verdict.new.requests c.deal-verdict.new.known c.deal-verdict.new.replies)) frame (c.deal-verdict.ensures d.book (state_of (p g d)) (Some c.take-buffer.result.0.number) (shows g.P.PeerLane.Moved g.met.P.PeerLane.none (v g) d.book d.endpoints d.requests d.table d.peers.items c.self.invariant c.args.place x at c.take-buffer.result.0 c.take-buffer.result.1 lines lines')) in
+    let all = subst (λ (f : List ℕ). IsVerdict (state_of (p g d)) (Some c.take-buffer.result.0.number) x.number f c.deal_alone-verdict.result (desk d.endpoints d.requests x.known x.replies) (desk c.deal_alone-verdict.new.endpoints c.deal_alone-verdict.new.requests c.deal_alone-verdict.new.known c.deal_alone-verdict.new.replies)) frame (c.deal_alone-verdict.ensures d.book (state_of (p g d)) (Some c.take-buffer.result.0.number) (shows g.P.PeerLane.Moved g.met.P.PeerLane.none (v g) d.book d.endpoints d.requests d.table d.peers.items c.self.invariant c.args.place x at c.take-buffer.result.0 c.take-buffer.result.1 lines lines') (shut g.P.PeerLane.Moved g.met.P.PeerLane.none (v g) d.book d.endpoints d.requests d.table d.peers.items c.self.invariant c.args.place x at c.take-buffer.result.0 c.take-buffer.result.1 lines lines')) in
     let is = rw c.in-Handed.is at all in
     away-slot g.P.PeerLane.Moved g.met.P.PeerLane.none (v g) d.book d.endpoints d.requests d.table d.peers.items c.self.invariant c.args.place x at c.take-buffer.result.0 c.take-buffer.result.1 lines lines' c.take-buffer.new.self took.seen took.moved took.apart
 
@@ -161,7 +161,7 @@ enqueue-slot-requires-in-Handed-clause-unqueued g c =
     let bytes = take c.take-buffer.result.1 c.take-buffer.result.0.bytes in
     let frame : c.split_at.result.0.now ≡ bytes = c.split_at.ensures.front ∙ ap (take c.take-buffer.result.1) c.bytes.ensures.value in
     let took = c.take-buffer.ensures in
-    let all = subst (λ (f : List ℕ). IsVerdict (state_of (p g d)) (Some c.take-buffer.result.0.number) x.number f c.deal-verdict.result (desk d.endpoints d.requests x.known x.replies) (desk c.deal-verdict.new.endpoints c.deal-verdict.new.requests c.deal-verdict.new.known c.deal-verdict.new.replies)) frame (c.deal-verdict.ensures d.book (state_of (p g d)) (Some c.take-buffer.result.0.number) (shows g.P.PeerLane.Moved g.met.P.PeerLane.none (v g) d.book d.endpoints d.requests d.table d.peers.items c.self.invariant c.args.place x at c.take-buffer.result.0 c.take-buffer.result.1 lines lines')) in
+    let all = subst (λ (f : List ℕ). IsVerdict (state_of (p g d)) (Some c.take-buffer.result.0.number) x.number f c.deal_alone-verdict.result (desk d.endpoints d.requests x.known x.replies) (desk c.deal_alone-verdict.new.endpoints c.deal_alone-verdict.new.requests c.deal_alone-verdict.new.known c.deal_alone-verdict.new.replies)) frame (c.deal_alone-verdict.ensures d.book (state_of (p g d)) (Some c.take-buffer.result.0.number) (shows g.P.PeerLane.Moved g.met.P.PeerLane.none (v g) d.book d.endpoints d.requests d.table d.peers.items c.self.invariant c.args.place x at c.take-buffer.result.0 c.take-buffer.result.1 lines lines') (shut g.P.PeerLane.Moved g.met.P.PeerLane.none (v g) d.book d.endpoints d.requests d.table d.peers.items c.self.invariant c.args.place x at c.take-buffer.result.0 c.take-buffer.result.1 lines lines')) in
     let is = rw c.in-Handed.is at all in
     subst IsNone (sym (unqueued-slot g.P.PeerLane.Moved g.met.P.PeerLane.none (v g) d.book d.endpoints d.requests d.table d.peers.items c.self.invariant c.args.place x at c.take-buffer.result.0 c.take-buffer.result.1 lines lines' c.take-buffer.new.self took.seen took.moved took.apart)) refl
 
@@ -175,7 +175,7 @@ enqueue-slot-requires-in-Handed-clause-inside g c =
     let bytes = take c.take-buffer.result.1 c.take-buffer.result.0.bytes in
     let frame : c.split_at.result.0.now ≡ bytes = c.split_at.ensures.front ∙ ap (take c.take-buffer.result.1) c.bytes.ensures.value in
     let took = c.take-buffer.ensures in
-    let all = subst (λ (f : List ℕ). IsVerdict (state_of (p g d)) (Some c.take-buffer.result.0.number) x.number f c.deal-verdict.result (desk d.endpoints d.requests x.known x.replies) (desk c.deal-verdict.new.endpoints c.deal-verdict.new.requests c.deal-verdict.new.known c.deal-verdict.new.replies)) frame (c.deal-verdict.ensures d.book (state_of (p g d)) (Some c.take-buffer.result.0.number) (shows g.P.PeerLane.Moved g.met.P.PeerLane.none (v g) d.book d.endpoints d.requests d.table d.peers.items c.self.invariant c.args.place x at c.take-buffer.result.0 c.take-buffer.result.1 lines lines')) in
+    let all = subst (λ (f : List ℕ). IsVerdict (state_of (p g d)) (Some c.take-buffer.result.0.number) x.number f c.deal_alone-verdict.result (desk d.endpoints d.requests x.known x.replies) (desk c.deal_alone-verdict.new.endpoints c.deal_alone-verdict.new.requests c.deal_alone-verdict.new.known c.deal_alone-verdict.new.replies)) frame (c.deal_alone-verdict.ensures d.book (state_of (p g d)) (Some c.take-buffer.result.0.number) (shows g.P.PeerLane.Moved g.met.P.PeerLane.none (v g) d.book d.endpoints d.requests d.table d.peers.items c.self.invariant c.args.place x at c.take-buffer.result.0 c.take-buffer.result.1 lines lines') (shut g.P.PeerLane.Moved g.met.P.PeerLane.none (v g) d.book d.endpoints d.requests d.table d.peers.items c.self.invariant c.args.place x at c.take-buffer.result.0 c.take-buffer.result.1 lines lines')) in
     let is = rw c.in-Handed.is at all in
     let short = is.1.short in omega (arith, short)
 
@@ -189,7 +189,7 @@ complete-requires g c =
     let bytes = take c.take-buffer.result.1 c.take-buffer.result.0.bytes in
     let frame : c.split_at.result.0.now ≡ bytes = c.split_at.ensures.front ∙ ap (take c.take-buffer.result.1) c.bytes.ensures.value in
     let took = c.take-buffer.ensures in
-    let all = subst (λ (f : List ℕ). IsVerdict (state_of (p g d)) (Some c.take-buffer.result.0.number) x.number f c.deal-verdict.result (desk d.endpoints d.requests x.known x.replies) (desk c.deal-verdict.new.endpoints c.deal-verdict.new.requests c.deal-verdict.new.known c.deal-verdict.new.replies)) frame (c.deal-verdict.ensures d.book (state_of (p g d)) (Some c.take-buffer.result.0.number) (shows g.P.PeerLane.Moved g.met.P.PeerLane.none (v g) d.book d.endpoints d.requests d.table d.peers.items c.self.invariant c.args.place x at c.take-buffer.result.0 c.take-buffer.result.1 lines lines')) in
+    let all = subst (λ (f : List ℕ). IsVerdict (state_of (p g d)) (Some c.take-buffer.result.0.number) x.number f c.deal_alone-verdict.result (desk d.endpoints d.requests x.known x.replies) (desk c.deal_alone-verdict.new.endpoints c.deal_alone-verdict.new.requests c.deal_alone-verdict.new.known c.deal_alone-verdict.new.replies)) frame (c.deal_alone-verdict.ensures d.book (state_of (p g d)) (Some c.take-buffer.result.0.number) (shows g.P.PeerLane.Moved g.met.P.PeerLane.none (v g) d.book d.endpoints d.requests d.table d.peers.items c.self.invariant c.args.place x at c.take-buffer.result.0 c.take-buffer.result.1 lines lines') (shut g.P.PeerLane.Moved g.met.P.PeerLane.none (v g) d.book d.endpoints d.requests d.table d.peers.items c.self.invariant c.args.place x at c.take-buffer.result.0 c.take-buffer.result.1 lines lines')) in
     let is = rw c.in-Handed.is at all in
     subst (λ (z : Desk). IsPending z.requests c.in-Handed.id) (sym is.2) is.0.pending
 
@@ -203,11 +203,11 @@ invariant_of-self-in-Handed g c =
     let bytes = take c.take-buffer.result.1 c.take-buffer.result.0.bytes in
     let frame : c.split_at.result.0.now ≡ bytes = c.split_at.ensures.front ∙ ap (take c.take-buffer.result.1) c.bytes.ensures.value in
     let took = c.take-buffer.ensures in
-    let all = subst (λ (f : List ℕ). IsVerdict (state_of (p g d)) (Some c.take-buffer.result.0.number) x.number f c.deal-verdict.result (desk d.endpoints d.requests x.known x.replies) (desk c.deal-verdict.new.endpoints c.deal-verdict.new.requests c.deal-verdict.new.known c.deal-verdict.new.replies)) frame (c.deal-verdict.ensures d.book (state_of (p g d)) (Some c.take-buffer.result.0.number) (shows g.P.PeerLane.Moved g.met.P.PeerLane.none (v g) d.book d.endpoints d.requests d.table d.peers.items c.self.invariant c.args.place x at c.take-buffer.result.0 c.take-buffer.result.1 lines lines')) in
+    let all = subst (λ (f : List ℕ). IsVerdict (state_of (p g d)) (Some c.take-buffer.result.0.number) x.number f c.deal_alone-verdict.result (desk d.endpoints d.requests x.known x.replies) (desk c.deal_alone-verdict.new.endpoints c.deal_alone-verdict.new.requests c.deal_alone-verdict.new.known c.deal_alone-verdict.new.replies)) frame (c.deal_alone-verdict.ensures d.book (state_of (p g d)) (Some c.take-buffer.result.0.number) (shows g.P.PeerLane.Moved g.met.P.PeerLane.none (v g) d.book d.endpoints d.requests d.table d.peers.items c.self.invariant c.args.place x at c.take-buffer.result.0 c.take-buffer.result.1 lines lines') (shut g.P.PeerLane.Moved g.met.P.PeerLane.none (v g) d.book d.endpoints d.requests d.table d.peers.items c.self.invariant c.args.place x at c.take-buffer.result.0 c.take-buffer.result.1 lines lines')) in
     let is = rw c.in-Handed.is at all in
-    let requests = c.complete.ensures ∙ ap (λ (h : Complete). with_complete c.deal-verdict.new.requests c.in-Handed.id h) c.handed.ensures ∙ ap (λ (s : Slot). with_complete c.deal-verdict.new.requests c.in-Handed.id (handed_by c.in-Handed.ask s)) c.enqueue-slot-in-Handed.ensures.slot ∙ ap (λ (z : Desk). with_complete z.requests c.in-Handed.id (handed_by c.in-Handed.ask (slot_at x.number c.take-buffer.result.0.number))) is.2 in
+    let requests = c.complete.ensures ∙ ap (λ (h : Complete). with_complete c.deal_alone-verdict.new.requests c.in-Handed.id h) c.handed.ensures ∙ ap (λ (s : Slot). with_complete c.deal_alone-verdict.new.requests c.in-Handed.id (handed_by c.in-Handed.ask s)) c.enqueue-slot-in-Handed.ensures.slot ∙ ap (λ (z : Desk). with_complete z.requests c.in-Handed.id (handed_by c.in-Handed.ask (slot_at x.number c.take-buffer.result.0.number))) is.2 in
     let book = c.enqueue-slot-in-Handed.ensures.book ∙ ap (λ (s : Slot). with_queued d.book s (kept_in_buffer c.take-buffer.result.0 24 c.in-Handed.size)) c.enqueue-slot-in-Handed.ensures.slot in
-    handed-keeps g.P.PeerLane.Moved g.met.P.PeerLane.none (v g) d.book d.endpoints d.requests d.table d.peers.items c.self.invariant c.args.place x at c.take-buffer.result.0 c.take-buffer.result.1 lines lines' c.take-buffer.new.self took.seen took.moved took.apart c.in-Handed.size is.1 c.enqueue-slot-in-Handed.new.self book c.deal-verdict.new.known (ap (λ (z : Desk). z.names) is.2) c.deal-verdict.new.replies (ap (λ (z : Desk). z.replies) is.2) c.in-Handed.id c.in-Handed.ask is.0 c.deal-verdict.new.endpoints c.complete.new.self (ap (λ (z : Desk). z.records) is.2) requests
+    handed-keeps g.P.PeerLane.Moved g.met.P.PeerLane.none (v g) d.book d.endpoints d.requests d.table d.peers.items c.self.invariant c.args.place x at c.take-buffer.result.0 c.take-buffer.result.1 lines lines' c.take-buffer.new.self took.seen took.moved took.apart c.in-Handed.size is.1 c.enqueue-slot-in-Handed.new.self book c.deal_alone-verdict.new.known (ap (λ (z : Desk). z.names) is.2) c.deal_alone-verdict.new.replies (ap (λ (z : Desk). z.replies) is.2) c.in-Handed.id c.in-Handed.ask is.0 c.deal_alone-verdict.new.endpoints c.complete.new.self (ap (λ (z : Desk). z.records) is.2) requests
 
 pub returns-in-Handed-clause-takes : goal.returns-in-Handed-clause-takes
 returns-in-Handed-clause-takes g c =
@@ -219,13 +219,13 @@ returns-in-Handed-clause-takes g c =
     let bytes = take c.take-buffer.result.1 c.take-buffer.result.0.bytes in
     let frame : c.split_at.result.0.now ≡ bytes = c.split_at.ensures.front ∙ ap (take c.take-buffer.result.1) c.bytes.ensures.value in
     let took = c.take-buffer.ensures in
-    let all = subst (λ (f : List ℕ). IsVerdict (state_of (p g d)) (Some c.take-buffer.result.0.number) x.number f c.deal-verdict.result (desk d.endpoints d.requests x.known x.replies) (desk c.deal-verdict.new.endpoints c.deal-verdict.new.requests c.deal-verdict.new.known c.deal-verdict.new.replies)) frame (c.deal-verdict.ensures d.book (state_of (p g d)) (Some c.take-buffer.result.0.number) (shows g.P.PeerLane.Moved g.met.P.PeerLane.none (v g) d.book d.endpoints d.requests d.table d.peers.items c.self.invariant c.args.place x at c.take-buffer.result.0 c.take-buffer.result.1 lines lines')) in
+    let all = subst (λ (f : List ℕ). IsVerdict (state_of (p g d)) (Some c.take-buffer.result.0.number) x.number f c.deal_alone-verdict.result (desk d.endpoints d.requests x.known x.replies) (desk c.deal_alone-verdict.new.endpoints c.deal_alone-verdict.new.requests c.deal_alone-verdict.new.known c.deal_alone-verdict.new.replies)) frame (c.deal_alone-verdict.ensures d.book (state_of (p g d)) (Some c.take-buffer.result.0.number) (shows g.P.PeerLane.Moved g.met.P.PeerLane.none (v g) d.book d.endpoints d.requests d.table d.peers.items c.self.invariant c.args.place x at c.take-buffer.result.0 c.take-buffer.result.1 lines lines') (shut g.P.PeerLane.Moved g.met.P.PeerLane.none (v g) d.book d.endpoints d.requests d.table d.peers.items c.self.invariant c.args.place x at c.take-buffer.result.0 c.take-buffer.result.1 lines lines')) in
     let is = rw c.in-Handed.is at all in
     let told = c.note.ensures.lines ∙ ap (λ (f : List ℕ). lines ++ take_line x.number f c.fate-fate.result ∷ []) frame ∙ ap (λ (w : Fate). lines ++ take_line x.number bytes w ∷ []) (c.fate-fate.ensures ∙ ap fate_of c.in-Handed.is) in
-    let requests = c.complete.ensures ∙ ap (λ (h : Complete). with_complete c.deal-verdict.new.requests c.in-Handed.id h) c.handed.ensures ∙ ap (λ (s : Slot). with_complete c.deal-verdict.new.requests c.in-Handed.id (handed_by c.in-Handed.ask s)) c.enqueue-slot-in-Handed.ensures.slot ∙ ap (λ (z : Desk). with_complete z.requests c.in-Handed.id (handed_by c.in-Handed.ask (slot_at x.number c.take-buffer.result.0.number))) is.2 in
+    let requests = c.complete.ensures ∙ ap (λ (h : Complete). with_complete c.deal_alone-verdict.new.requests c.in-Handed.id h) c.handed.ensures ∙ ap (λ (s : Slot). with_complete c.deal_alone-verdict.new.requests c.in-Handed.id (handed_by c.in-Handed.ask s)) c.enqueue-slot-in-Handed.ensures.slot ∙ ap (λ (z : Desk). with_complete z.requests c.in-Handed.id (handed_by c.in-Handed.ask (slot_at x.number c.take-buffer.result.0.number))) is.2 in
     let book = c.enqueue-slot-in-Handed.ensures.book ∙ ap (λ (s : Slot). with_queued d.book s (kept_in_buffer c.take-buffer.result.0 24 c.in-Handed.size)) c.enqueue-slot-in-Handed.ensures.slot in
-    subst (λ (h : Holding g.row.P.Denot). Takes g.P.PeerLane.Moved c.args.place 1 h (holding_in (v g) c.enqueue-slot-in-Handed.new.self c.deal-verdict.new.endpoints c.complete.new.self d.table (slice_set d.peers.items c.args.place (record x { ends = c.take-buffer.new.self; known = c.deal-verdict.new.known; replies = c.deal-verdict.new.replies }))) lines lines') c.self.view_is
-    (handed-takes g.P.PeerLane.Moved g.met.P.PeerLane.none (v g) d.book d.endpoints d.requests d.table d.peers.items c.self.invariant c.args.place x at c.take-buffer.result.0 c.take-buffer.result.1 lines lines' c.take-buffer.new.self took.seen took.moved took.apart c.in-Handed.size is.1 c.enqueue-slot-in-Handed.new.self book c.deal-verdict.new.known (ap (λ (z : Desk). z.names) is.2) c.deal-verdict.new.replies (ap (λ (z : Desk). z.replies) is.2) c.in-Handed.id c.in-Handed.ask is.0 c.deal-verdict.new.endpoints c.complete.new.self (ap (λ (z : Desk). z.records) is.2) requests told)
+    subst (λ (h : Holding g.row.P.Denot). Takes g.P.PeerLane.Moved c.args.place 1 h (holding_in (v g) c.enqueue-slot-in-Handed.new.self c.deal_alone-verdict.new.endpoints c.complete.new.self d.table (slice_set d.peers.items c.args.place (record x { ends = c.take-buffer.new.self; known = c.deal_alone-verdict.new.known; replies = c.deal_alone-verdict.new.replies }))) lines lines') c.self.view_is
+    (handed-takes g.P.PeerLane.Moved g.met.P.PeerLane.none (v g) d.book d.endpoints d.requests d.table d.peers.items c.self.invariant c.args.place x at c.take-buffer.result.0 c.take-buffer.result.1 lines lines' c.take-buffer.new.self took.seen took.moved took.apart c.in-Handed.size is.1 c.enqueue-slot-in-Handed.new.self book c.deal_alone-verdict.new.known (ap (λ (z : Desk). z.names) is.2) c.deal_alone-verdict.new.replies (ap (λ (z : Desk). z.replies) is.2) c.in-Handed.id c.in-Handed.ask is.0 c.deal_alone-verdict.new.endpoints c.complete.new.self (ap (λ (z : Desk). z.records) is.2) requests told)
 
 -- ---- its buffer is given back
 
@@ -239,7 +239,7 @@ give_back-requires g c =
     let bytes = take c.take-buffer.result.1 c.take-buffer.result.0.bytes in
     let frame : c.split_at.result.0.now ≡ bytes = c.split_at.ensures.front ∙ ap (take c.take-buffer.result.1) c.bytes.ensures.value in
     let took = c.take-buffer.ensures in
-    let all = subst (λ (f : List ℕ). IsVerdict (state_of (p g d)) (Some c.take-buffer.result.0.number) x.number f c.deal-verdict.result (desk d.endpoints d.requests x.known x.replies) (desk c.deal-verdict.new.endpoints c.deal-verdict.new.requests c.deal-verdict.new.known c.deal-verdict.new.replies)) frame (c.deal-verdict.ensures d.book (state_of (p g d)) (Some c.take-buffer.result.0.number) (shows g.P.PeerLane.Moved g.met.P.PeerLane.none (v g) d.book d.endpoints d.requests d.table d.peers.items c.self.invariant c.args.place x at c.take-buffer.result.0 c.take-buffer.result.1 lines lines')) in
+    let all = subst (λ (f : List ℕ). IsVerdict (state_of (p g d)) (Some c.take-buffer.result.0.number) x.number f c.deal_alone-verdict.result (desk d.endpoints d.requests x.known x.replies) (desk c.deal_alone-verdict.new.endpoints c.deal_alone-verdict.new.requests c.deal_alone-verdict.new.known c.deal_alone-verdict.new.replies)) frame (c.deal_alone-verdict.ensures d.book (state_of (p g d)) (Some c.take-buffer.result.0.number) (shows g.P.PeerLane.Moved g.met.P.PeerLane.none (v g) d.book d.endpoints d.requests d.table d.peers.items c.self.invariant c.args.place x at c.take-buffer.result.0 c.take-buffer.result.1 lines lines') (shut g.P.PeerLane.Moved g.met.P.PeerLane.none (v g) d.book d.endpoints d.requests d.table d.peers.items c.self.invariant c.args.place x at c.take-buffer.result.0 c.take-buffer.result.1 lines lines')) in
     let is = rw c.in-Returned.is at all in
     given-out g.P.PeerLane.Moved g.met.P.PeerLane.none (v g) d.book d.endpoints d.requests d.table d.peers.items c.self.invariant c.args.place x at c.take-buffer.result.0 c.take-buffer.result.1 lines lines' c.take-buffer.new.self took.seen took.moved took.apart
 
@@ -253,9 +253,9 @@ invariant_of-self-in-Returned g c =
     let bytes = take c.take-buffer.result.1 c.take-buffer.result.0.bytes in
     let frame : c.split_at.result.0.now ≡ bytes = c.split_at.ensures.front ∙ ap (take c.take-buffer.result.1) c.bytes.ensures.value in
     let took = c.take-buffer.ensures in
-    let all = subst (λ (f : List ℕ). IsVerdict (state_of (p g d)) (Some c.take-buffer.result.0.number) x.number f c.deal-verdict.result (desk d.endpoints d.requests x.known x.replies) (desk c.deal-verdict.new.endpoints c.deal-verdict.new.requests c.deal-verdict.new.known c.deal-verdict.new.replies)) frame (c.deal-verdict.ensures d.book (state_of (p g d)) (Some c.take-buffer.result.0.number) (shows g.P.PeerLane.Moved g.met.P.PeerLane.none (v g) d.book d.endpoints d.requests d.table d.peers.items c.self.invariant c.args.place x at c.take-buffer.result.0 c.take-buffer.result.1 lines lines')) in
+    let all = subst (λ (f : List ℕ). IsVerdict (state_of (p g d)) (Some c.take-buffer.result.0.number) x.number f c.deal_alone-verdict.result (desk d.endpoints d.requests x.known x.replies) (desk c.deal_alone-verdict.new.endpoints c.deal_alone-verdict.new.requests c.deal_alone-verdict.new.known c.deal_alone-verdict.new.replies)) frame (c.deal_alone-verdict.ensures d.book (state_of (p g d)) (Some c.take-buffer.result.0.number) (shows g.P.PeerLane.Moved g.met.P.PeerLane.none (v g) d.book d.endpoints d.requests d.table d.peers.items c.self.invariant c.args.place x at c.take-buffer.result.0 c.take-buffer.result.1 lines lines') (shut g.P.PeerLane.Moved g.met.P.PeerLane.none (v g) d.book d.endpoints d.requests d.table d.peers.items c.self.invariant c.args.place x at c.take-buffer.result.0 c.take-buffer.result.1 lines lines')) in
     let is = rw c.in-Returned.is at all in
-    back-keeps g.P.PeerLane.Moved g.met.P.PeerLane.none (v g) d.book d.endpoints d.requests d.table d.peers.items c.self.invariant c.args.place x at c.take-buffer.result.0 c.take-buffer.result.1 lines lines' c.take-buffer.new.self took.seen took.moved took.apart g.met.P.PeerLane.both c.give_back.new.self c.give_back.ensures.seen c.give_back.ensures.moved c.in-Returned.field-0 (desk c.deal-verdict.new.endpoints c.deal-verdict.new.requests c.deal-verdict.new.known c.deal-verdict.new.replies) is
+    back-keeps g.P.PeerLane.Moved g.met.P.PeerLane.none (v g) d.book d.endpoints d.requests d.table d.peers.items c.self.invariant c.args.place x at c.take-buffer.result.0 c.take-buffer.result.1 lines lines' c.take-buffer.new.self took.seen took.moved took.apart g.met.P.PeerLane.both c.give_back.new.self c.give_back.ensures.seen c.give_back.ensures.moved c.in-Returned.field-0 (desk c.deal_alone-verdict.new.endpoints c.deal_alone-verdict.new.requests c.deal_alone-verdict.new.known c.deal_alone-verdict.new.replies) is
 
 pub returns-in-Returned-clause-takes : goal.returns-in-Returned-clause-takes
 returns-in-Returned-clause-takes g c =
@@ -267,8 +267,8 @@ returns-in-Returned-clause-takes g c =
     let bytes = take c.take-buffer.result.1 c.take-buffer.result.0.bytes in
     let frame : c.split_at.result.0.now ≡ bytes = c.split_at.ensures.front ∙ ap (take c.take-buffer.result.1) c.bytes.ensures.value in
     let took = c.take-buffer.ensures in
-    let all = subst (λ (f : List ℕ). IsVerdict (state_of (p g d)) (Some c.take-buffer.result.0.number) x.number f c.deal-verdict.result (desk d.endpoints d.requests x.known x.replies) (desk c.deal-verdict.new.endpoints c.deal-verdict.new.requests c.deal-verdict.new.known c.deal-verdict.new.replies)) frame (c.deal-verdict.ensures d.book (state_of (p g d)) (Some c.take-buffer.result.0.number) (shows g.P.PeerLane.Moved g.met.P.PeerLane.none (v g) d.book d.endpoints d.requests d.table d.peers.items c.self.invariant c.args.place x at c.take-buffer.result.0 c.take-buffer.result.1 lines lines')) in
+    let all = subst (λ (f : List ℕ). IsVerdict (state_of (p g d)) (Some c.take-buffer.result.0.number) x.number f c.deal_alone-verdict.result (desk d.endpoints d.requests x.known x.replies) (desk c.deal_alone-verdict.new.endpoints c.deal_alone-verdict.new.requests c.deal_alone-verdict.new.known c.deal_alone-verdict.new.replies)) frame (c.deal_alone-verdict.ensures d.book (state_of (p g d)) (Some c.take-buffer.result.0.number) (shows g.P.PeerLane.Moved g.met.P.PeerLane.none (v g) d.book d.endpoints d.requests d.table d.peers.items c.self.invariant c.args.place x at c.take-buffer.result.0 c.take-buffer.result.1 lines lines') (shut g.P.PeerLane.Moved g.met.P.PeerLane.none (v g) d.book d.endpoints d.requests d.table d.peers.items c.self.invariant c.args.place x at c.take-buffer.result.0 c.take-buffer.result.1 lines lines')) in
     let is = rw c.in-Returned.is at all in
     let told = c.note.ensures.lines ∙ ap (λ (f : List ℕ). lines ++ take_line x.number f c.fate-fate.result ∷ []) frame ∙ ap (λ (w : Fate). lines ++ take_line x.number bytes w ∷ []) (c.fate-fate.ensures ∙ ap fate_of c.in-Returned.is) in
-    subst (λ (h : Holding g.row.P.Denot). Takes g.P.PeerLane.Moved c.args.place 1 h (holding_in (v g) d.book c.deal-verdict.new.endpoints c.deal-verdict.new.requests d.table (slice_set d.peers.items c.args.place (record x { ends = c.give_back.new.self; known = c.deal-verdict.new.known; replies = c.deal-verdict.new.replies }))) lines lines') c.self.view_is
-    (back-takes g.P.PeerLane.Moved g.met.P.PeerLane.none (v g) d.book d.endpoints d.requests d.table d.peers.items c.self.invariant c.args.place x at c.take-buffer.result.0 c.take-buffer.result.1 lines lines' c.take-buffer.new.self took.seen took.moved took.apart g.met.P.PeerLane.both c.give_back.new.self c.give_back.ensures.seen c.give_back.ensures.moved c.in-Returned.field-0 (desk c.deal-verdict.new.endpoints c.deal-verdict.new.requests c.deal-verdict.new.known c.deal-verdict.new.replies) is told)
+    subst (λ (h : Holding g.row.P.Denot). Takes g.P.PeerLane.Moved c.args.place 1 h (holding_in (v g) d.book c.deal_alone-verdict.new.endpoints c.deal_alone-verdict.new.requests d.table (slice_set d.peers.items c.args.place (record x { ends = c.give_back.new.self; known = c.deal_alone-verdict.new.known; replies = c.deal_alone-verdict.new.replies }))) lines lines') c.self.view_is
+    (back-takes g.P.PeerLane.Moved g.met.P.PeerLane.none (v g) d.book d.endpoints d.requests d.table d.peers.items c.self.invariant c.args.place x at c.take-buffer.result.0 c.take-buffer.result.1 lines lines' c.take-buffer.new.self took.seen took.moved took.apart g.met.P.PeerLane.both c.give_back.new.self c.give_back.ensures.seen c.give_back.ensures.moved c.in-Returned.field-0 (desk c.deal_alone-verdict.new.endpoints c.deal_alone-verdict.new.requests c.deal_alone-verdict.new.known c.deal_alone-verdict.new.replies) is told)

@@ -2,7 +2,7 @@ use Rattle.std.proofs.Common.{◌∙◌, ap, arith, sym}
 use Rattle.board_model.specs.Turn.{takes_named}
 use Rattle.domain_parts.specs.LaneSeen.{LaneSeen}
 use Rattle.domain_parts.specs.NumberedDeeds.{number_in}
-use Rattle.domain_parts.specs.Parts.{peer_at}
+use Rattle.domain_parts.specs.Parts.{peer_at, state_of}
 use Rattle.domain_parts.specs.VisitMoves.{taking}
 use Rattle.domain_parts.proofs.Turning.{did-numbers, doing-ends, same-length}
 use Rattle.domain_parts.proofs.Visiting.{Takes-more, Takes-none, taken-shown}
@@ -26,8 +26,8 @@ take_frame-requires-clause-shown g c =
     let t = c.loop.invariant.takes in
     let p = c.args.self.now.parts in
     let x = peer_at p c.args.place in
-    let ends = doing-ends g.P.PeerLane.Moved (takes_named (number_in t.numbers) x.number t.takes) (taking t.numbers t.takes) c.args.self.now c.loop.self c.args.place c.requires.within t.doing in
-    let left = ap (λ (l : LaneSeen). l.shown) ends ∙ taken-shown t.numbers t.takes x.ends (t.each ∙ sym t.many) in
+    let ends = doing-ends g.P.PeerLane.Moved (takes_named (number_in t.numbers) x.number t.takes) (taking (state_of p) x.number t.numbers t.takes) c.args.self.now c.loop.self c.args.place c.requires.within t.doing in
+    let left = ap (λ (l : LaneSeen). l.shown) ends ∙ taken-shown (state_of p) x.number t.numbers t.takes x.ends (t.each ∙ sym t.many) in
     omega (arith, left, t.many, c.requires.shown, c.loop-test.true)
 
 pub loop-preserved : goal.loop-preserved

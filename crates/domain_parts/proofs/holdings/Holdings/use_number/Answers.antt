@@ -20,7 +20,7 @@ pub invariant_of-self : goal.invariant_of-self
 invariant_of-self g c =
     let d = c.self.inside in
     subst (λ (r : Records). AreSound plain d.book r d.requests d.table (p g d).peers) (sym c.number_channel.ensures.numbered)
-    (sound-moved plain d.book d.endpoints _ d.requests d.requests d.table (p g d).peers (record { number = refl; given = refl; room = refl; live = refl }) refl (λ s. refl) (omega arith) c.self.invariant.receives c.self.invariant)
+    (sound-moved plain d.book d.endpoints _ d.requests d.requests d.table (p g d).peers (record { number = refl; given = refl; room = refl; live = refl }) refl (λ are. are) (λ s. refl) (omega arith) c.self.invariant.receives c.self.invariant)
 
 pub returns : goal.returns
 returns g c =
