@@ -2,7 +2,7 @@
 use Rattle.std.proofs.Common.{◌≡◌, ◌≢◌, ℕ, ◌+◌, ◌<◌, ◌≤◌, ◌^◌, Bool, true, false, ◌&&◌, cond, List, [], ◌∷◌, ◌++◌, length, map, Option, Some, None, position, option_map, option_and_then, option_to_list, refl, sym, ap, ap₂, ◌∙◌, subst, inl, inr, arith, true≢false}
 use Rattle.std.specs.Prelude.{◌==◌, is_some, find, unwrap_or, IfSome}
 use Rattle.std.specs.Option.{option_or}
-use Rattle.std.specs.List.{AllByRecursion, position_from}
+use Rattle.std.specs.List.{AllByRecursion, AllZip, position_from}
 use Rattle.std.specs.Str.{bytes_eq}
 use Rattle.std.specs.Map.{update}
 use Rattle.arrayvec.specs.ArrayVec.{ArrayVec}
@@ -175,6 +175,13 @@ if_weaker P Q None f h = tt
 if_weaker P Q (Some i) f h = f i h
 
 -- ---- an id more
+
+-- bytes that are copied one by one are the same
+pub copied : (xs ys : List ℕ) → AllZip (λ (x y : ℕ). y ≡ x) xs ys → ys ≡ xs
+copied [] [] same = refl
+copied [] (y ∷ ys) same = absurd same
+copied (x ∷ xs) [] same = absurd same
+copied (x ∷ xs) (y ∷ ys) same = ap₂ (λ (z : ℕ) (zs : List ℕ). z ∷ zs) same.0 (copied xs ys same.1)
 
 same_label : {A : Type 0} (label other : List ℕ) (ids : Held A) → bytes_eq label other ≡ true → id_for ids label ≡ id_for ids other
 same_label label other ids e = ap (id_for ids) ((bytes_eq-Decides label other).0 e)

@@ -3,17 +3,17 @@
 -- that it lends; a scenario names them by labels.
 use Rattle.std.specs.Prelude.{◌≡◌, ℕ, ◌-◌, ◌^◌, List, Option, None, Some, unwrap_or, if◌then◌else◌}
 use Rattle.std.specs.Option.{option_or}
-use Rattle.std.specs.Borrow.{Bor}
 use Rattle.std.specs.HashMap.{HashMap, get_by}
 use Rattle.std.specs.Str.{bytes_eq}
 use Rattle.std.proofs.Common.{BuildHasherDefault, FoldHasher}
+use Rattle.arrayvec.specs.ArrayVec.{ArrayVec}
 use Rattle.mc_base.specs.Limits.{no_key}
 use Rattle.mc_base.specs.declared.request.PacketId.{PacketId}
 use Rattle.mc_base.specs.declared.request.RequestId.{RequestId}
 
 -- what was given for labels
 abbrev pub Held : Type 0 → Type 0
-Held A = HashMap (Bor (List ℕ)) A (BuildHasherDefault FoldHasher)
+Held A = HashMap (ArrayVec ℕ) A (BuildHasherDefault FoldHasher)
 
 -- the ids of the requests that were given for labels, and of the packets that were lent under them
 abbrev pub Ids : Type 0
@@ -24,7 +24,7 @@ PacketIds = Held PacketId
 
 -- the id that is held for a label
 abbrev pub id_for : {A : Type 0} → Held A → List ℕ → Option A
-id_for ids label = get_by (λ k. bytes_eq label k.now) ids
+id_for ids label = get_by (λ k. bytes_eq label k.items) ids
 
 -- the ids for a label for which none is held: they name no request and no packet
 abbrev pub no_id : RequestId

@@ -23,3 +23,4 @@ pub mod ThreadRun
 pub mod RingLines
 pub mod LendingLabels
 pub mod Waits
+pub mod Answered

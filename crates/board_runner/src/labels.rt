@@ -1,6 +1,6 @@
 //! The ids of the requests that were given for labels, and of the packets that were lent under them.
 
-ghost use Rattle.std.specs.Prelude.{◌≡◌, ◌≤◌, Some, OnOk, length, map, option_map};
+ghost use Rattle.std.specs.Prelude.{◌≡◌, ◌≤◌, Some, IfOk, OnOk, length, map, option_map};
 ghost use Rattle.board_model.specs.Scenario.{label_in};
 ghost use Rattle.mc_journal.specs.Entry.{plain_answer};
 ghost use Rattle.board_runner.specs.Held.{id_or_none, packet_or_none, TellsId};
@@ -27,17 +27,17 @@ const NO_PACKET: PacketId = PacketId {
 };
 
 /// The id that is held for a label. Where its call was refused there is none, and then it is an id that names no request.
-pub fn id_of(ids: &HashMap<&[u8], RequestId>, label: &Label) -> RequestId
+pub fn id_of(ids: &HashMap<Label, RequestId>, label: &Label) -> RequestId
     ensures { result ≡ id_or_none ids.now label.now.items }
 {
-    match ids.get(label.as_slice()) {
+    match ids.get(label) {
         Some(id) => *id,
         None => NO_ID,
     }
 }
 
 /// The ids of the requests that a wait names: of one, or of several.
-pub fn ids_of(ids: &HashMap<&[u8], RequestId>, call: &Call) -> ArrayVec<RequestId, 8>
+pub fn ids_of(ids: &HashMap<Label, RequestId>, call: &Call) -> ArrayVec<RequestId, 8>
     ensures { result.items ≡ ids_named ids.now call.now }
 {
     match call {
@@ -52,7 +52,7 @@ pub fn ids_of(ids: &HashMap<&[u8], RequestId>, call: &Call) -> ArrayVec<RequestI
 }
 
 /// The ids that are held for labels, in their order.
-fn ids_for(ids: &HashMap<&[u8], RequestId>, labels: &[Label]) -> ArrayVec<RequestId, 8>
+fn ids_for(ids: &HashMap<Label, RequestId>, labels: &[Label]) -> ArrayVec<RequestId, 8>
     requires { length labels.now ≤ 8 }
     ensures { result.items ≡ map (λ l. id_or_none ids.now l.items) labels.now }
 {
@@ -64,10 +64,10 @@ fn ids_for(ids: &HashMap<&[u8], RequestId>, labels: &[Label]) -> ArrayVec<Reques
 }
 
 /// The id of the packet that was lent under a label. Where none was, it is an id that names no packet.
-pub fn packet_of(packets: &HashMap<&[u8], PacketId>, label: &Label) -> PacketId
+pub fn packet_of(packets: &HashMap<Label, PacketId>, label: &Label) -> PacketId
     ensures { result ≡ packet_or_none packets.now label.now.items }
 {
-    match packets.get(label.as_slice()) {
+    match packets.get(label) {
         Some(id) => *id,
         None => NO_PACKET,
     }
@@ -95,9 +95,9 @@ fn label_at(labels: &LabelGroup, place: Option<u8>) -> Option<&Label>
 }
 
 /// Holds the id that was given for a label. One that is held for the label already stays.
-pub fn hold<'a, I: Drop>(
-    ids: &mut HashMap<&'a [u8], I>,
-    label: Option<&'a Label>,
+pub fn hold<I: Drop>(
+    ids: &mut HashMap<Label, I>,
+    label: Option<&Label>,
     given: Option<I>,
 ) -> Result<(), NoMemory>
     ensures { OnOk result (TellsId (option_map (λ l. l.now.items) label.entry) given ids.old ids.new) }
@@ -105,21 +105,27 @@ pub fn hold<'a, I: Drop>(
     let (Some(label), Some(id)) = (label, given) else {
         return Ok(());
     };
-    hold_for(ids, label.as_slice(), id)
+    hold_for(ids, label, id)
 }
 
-fn hold_for<'a, I: Drop>(
-    ids: &mut HashMap<&'a [u8], I>,
-    label: &'a [u8],
-    id: I,
-) -> Result<(), NoMemory>
-    ensures { OnOk result (TellsId (Some label.now) (Some id) ids.old ids.new) }
+fn hold_for<I: Drop>(ids: &mut HashMap<Label, I>, label: &Label, id: I) -> Result<(), NoMemory>
+    ensures { OnOk result (TellsId (Some label.now.items) (Some id) ids.old ids.new) }
 {
     if ids.contains_key(label) {
         return Ok(());
     }
-    match ids.insert(label, id) {
+    let key = copy_of(label)?;
+    match ids.insert(key, id) {
         Ok(_) => Ok(()),
+        Err(_) => Err(NoMemory),
+    }
+}
+
+fn copy_of(label: &Label) -> Result<Label, NoMemory>
+    ensures { IfOk result (λ copy. copy.items ≡ label.now.items) }
+{
+    match label.clone() {
+        Ok(copy) => Ok(copy),
         Err(_) => Err(NoMemory),
     }
 }

@@ -21,7 +21,7 @@ use crate::carrying::carry_all;
 use crate::labels::{hold, id_of, lending_label_of, packet_of};
 use crate::station::Station;
 use crate::stations::others_turn;
-use board_model::{Call, CallLine};
+use board_model::{Call, CallLine, Label};
 use channels::{close_recv, close_send, connect, open_recv, open_send};
 use domain_core::{Answer, Domain, Entry, Journal, Told};
 use items::{receive_packet, receive_scalar, release, request_packet, send_packet, send_scalar};
@@ -53,10 +53,10 @@ pub struct Ended {
 /// # Errors
 ///
 /// `NoMemory` where a journal or the labels cannot grow.
-pub fn run_line<'a>(
-    stations: &mut [Station<'a>],
+pub fn run_line(
+    stations: &mut [Station<'_>],
     at: usize,
-    line: &'a CallLine,
+    line: &CallLine,
     room: &mut [u8],
 ) -> Result<(), NoMemory>
     requires at { at < length stations.old }
@@ -94,10 +94,10 @@ pub fn more_calls_of(tries: Option<u32>) -> u32
 }
 
 /// Makes the call of a line, carries what it put and gave back, and returns whether it is to be made again.
-fn call_once<'a>(
-    stations: &mut [Station<'a>],
+fn call_once(
+    stations: &mut [Station<'_>],
     at: usize,
-    line: &'a CallLine,
+    line: &CallLine,
     may_try: bool,
     room: &mut [u8],
 ) -> Result<bool, NoMemory>
@@ -120,9 +120,9 @@ fn call_once<'a>(
 }
 
 /// Makes the call of a line and notes its answer.
-pub fn call_and_note<'a>(
-    station: &mut Station<'a>,
-    line: &'a CallLine,
+pub fn call_and_note(
+    station: &mut Station<'_>,
+    line: &CallLine,
     may_try: bool,
     room: &mut [u8],
 ) -> Result<Ended, NoMemory>
@@ -195,8 +195,8 @@ fn call_line<'r>(
 fn call_domain<'r>(
     domain: &mut Domain<StationSend<'_>, StationRecv<'_>>,
     journal: &mut Journal,
-    ids: &HashMap<&[u8], RequestId>,
-    packets: &HashMap<&[u8], PacketId>,
+    ids: &HashMap<Label, RequestId>,
+    packets: &HashMap<Label, PacketId>,
     line: &CallLine,
     room: &'r mut [u8],
 ) -> Result<Made<'r>, NoMemory>
@@ -300,11 +300,7 @@ fn note_again(journal: &mut Journal, word: Refusal) -> Result<(), NoMemory>
 
 /// Notes the last call of a line. The line is counted, and so are the messages that it dropped; the ids that it gave are held for
 /// their labels.
-fn note_called<'a>(
-    station: &mut Station<'a>,
-    line: &'a CallLine,
-    made: Made<'_>,
-) -> Result<(), NoMemory>
+fn note_called(station: &mut Station<'_>, line: &CallLine, made: Made<'_>) -> Result<(), NoMemory>
     requires count { MayCount station.old }
     requires drops { station.old.dropped ≤ 2 ^ 32 * station.old.number }
     requires bytes_fit { bytes_in_answer made.answer ≤ asked_limit }

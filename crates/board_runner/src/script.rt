@@ -3,6 +3,7 @@
 ghost use Rattle.std.specs.Prelude.{◌≡◌, ◌≤◌, ◌*◌, ◌^◌, IfOk, OnOk, length};
 ghost use Rattle.mc_base.specs.Limits.{asked_limit};
 ghost use Rattle.board_model.specs.Language.{IsLawfulBoard};
+ghost use Rattle.board_runner.specs.Answered.{IsAnswered};
 ghost use Rattle.board_runner.specs.Lines.{HasFitNumbers};
 ghost use Rattle.board_runner.specs.OwnRun.{HasNotBegun, CountsOneLine, RunsNextLine, RunsScript};
 ghost use Rattle.board_runner.specs.Runs.{MayCount};
@@ -24,7 +25,7 @@ use std::alloc::Global;
 /// `NoMemory`, at any time.
 pub(crate) fn run_script<'a, G: Gate, P: Pace + Drop>(
     alloc: Global,
-    scenario: &'a Scenario,
+    scenario: &Scenario,
     gate: &G,
     mut station: Station<'a>,
     mut pace: Option<P>,
@@ -52,9 +53,9 @@ pub(crate) fn run_script<'a, G: Gate, P: Pace + Drop>(
 /// # Errors
 ///
 /// `NoMemory` where the journal or the labels cannot grow.
-fn run_own_line<'a, P: Pace>(
-    station: &mut Station<'a>,
-    line: &'a CallLine,
+fn run_own_line<P: Pace>(
+    station: &mut Station<'_>,
+    line: &CallLine,
     pace: &mut Option<P>,
     room: &mut [u8],
 ) -> Result<(), NoMemory>
@@ -64,6 +65,7 @@ fn run_own_line<'a, P: Pace>(
     requires room { length room.old ≡ asked_limit }
     ensures run { OnOk result (RunsNextLine line.now station.old station.new) }
     ensures counts { OnOk result (CountsOneLine station.old station.new) }
+    ensures answered { OnOk result (IsAnswered station.old station.new) }
 {
     if let Some(limit) = wait_limit(&line.call) {
         wait_own(station, line, limit, pace, room)?;

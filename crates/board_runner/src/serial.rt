@@ -23,8 +23,8 @@ use std::alloc::Global;
 /// Runs a scenario on one thread, in the order of its lines, and returns what the run left (docs/PROFILE.md, "Serial run").
 ///
 /// Each look shows all frames and buffers that are there. Between two calls of a line with `try` every other domain makes one turn,
-/// and in each round of a wait every domain does. The same scenario always has the same outcome. It has to be lawful: one that a
-/// text of fewer than 4,294,967,294 bytes spells.
+/// and in each round of a wait every domain does. The same scenario always has the same outcome. It has to be lawful: one that
+/// some text spells, with fewer than 4,294,967,296 calls.
 ///
 /// # Errors
 ///
@@ -44,7 +44,7 @@ pub fn run_serial(alloc: Global, scenario: &Scenario) -> Result<Outcome, NoMemor
 /// Runs the lines of a lawful board in the file's order, and returns its stations. Each look shows all that stands.
 fn run_board<'a>(
     alloc: Global,
-    scenario: &'a Scenario,
+    scenario: &Scenario,
     wires: Vec<Wire<'a>>,
 ) -> Result<Vec<Station<'a>>, NoMemory>
     requires lawful { IsLawfulBoard scenario.now }
@@ -60,9 +60,9 @@ fn run_board<'a>(
 }
 
 /// Runs all lines at the stations of their domains. What is received goes through `room`.
-fn run_lines<'a>(
-    stations: &mut [Station<'a>],
-    scenario: &'a Scenario,
+fn run_lines(
+    stations: &mut [Station<'_>],
+    scenario: &Scenario,
     room: &mut [u8],
 ) -> Result<(), NoMemory>
     requires lawful { IsLawfulBoard scenario.now }

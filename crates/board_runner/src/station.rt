@@ -1,5 +1,6 @@
 //! A domain on its way through its script.
 
+use board_model::Label;
 use board_numbers::EndedDomain;
 use domain_core::{Domain, Journal};
 use mc_base::{PacketId, RequestId};
@@ -13,8 +14,8 @@ pub struct Station<'a> {
     pub domain: Domain<StationSend<'a>, StationRecv<'a>>,
     pub domain_number: u8,
     pub journal: Journal,
-    pub ids: HashMap<&'a [u8], RequestId>,
-    pub packets: HashMap<&'a [u8], PacketId>,
+    pub ids: HashMap<Label, RequestId>,
+    pub packets: HashMap<Label, PacketId>,
     pub number: u32,
     pub dropped: u64,
 }

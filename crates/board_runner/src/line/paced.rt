@@ -21,9 +21,9 @@ const WITHOUT_END: u32 = u32::MAX;
 
 /// Makes the call of a line and notes its answer. Where the line is tried without end, the domain goes at its pace before each call, and
 /// after one that was quiet and is to be made again.
-pub fn call_own<'a, P: Pace>(
-    station: &mut Station<'a>,
-    line: &'a CallLine,
+pub fn call_own<P: Pace>(
+    station: &mut Station<'_>,
+    line: &CallLine,
     may_try: bool,
     pace: &mut Option<P>,
     room: &mut [u8],
@@ -48,9 +48,9 @@ pub fn call_own<'a, P: Pace>(
 
 /// Waits at a domain alone, and notes how the wait ends. Between the turns of a wait without end the domain goes at its pace, where it
 /// has one.
-pub fn wait_own<'a, P: Pace>(
-    station: &mut Station<'a>,
-    line: &'a CallLine,
+pub fn wait_own<P: Pace>(
+    station: &mut Station<'_>,
+    line: &CallLine,
     limit: u32,
     pace: &mut Option<P>,
     room: &mut [u8],
@@ -69,9 +69,9 @@ pub fn wait_own<'a, P: Pace>(
 }
 
 /// Waits by single turns at a pace. It tests first, and again once a request is complete.
-fn wait_at_pace<'a, P: Pace>(
-    station: &mut Station<'a>,
-    line: &'a CallLine,
+fn wait_at_pace<P: Pace>(
+    station: &mut Station<'_>,
+    line: &CallLine,
     limit: u32,
     pace: &mut P,
     room: &mut [u8],

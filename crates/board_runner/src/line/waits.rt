@@ -38,10 +38,10 @@ pub fn wait_limit(call: &Call) -> Option<u32>
 
 /// Runs a line that waits. Its domain tests first. Then every domain makes a turn, in rising number, and it tests again, until a
 /// request is complete or the limit is reached.
-pub fn run_wait<'a>(
-    stations: &mut [Station<'a>],
+pub fn run_wait(
+    stations: &mut [Station<'_>],
     at: usize,
-    line: &'a CallLine,
+    line: &CallLine,
     limit: u32,
     room: &mut [u8],
 ) -> Result<(), NoMemory>
@@ -68,10 +68,10 @@ pub fn run_wait<'a>(
 }
 
 /// Ends a wait that needs no turn, and notes its answer. Where it has to wait, it notes that the wait begins, and returns false.
-fn test_wait<'a>(
-    stations: &mut [Station<'a>],
+fn test_wait(
+    stations: &mut [Station<'_>],
     at: usize,
-    line: &'a CallLine,
+    line: &CallLine,
     room: &mut [u8],
 ) -> Result<bool, NoMemory>
     requires at { at < length stations.old }
@@ -91,9 +91,9 @@ fn test_wait<'a>(
 }
 
 /// Does so at the station of the line's domain.
-pub fn end_at_once<'a>(
-    station: &mut Station<'a>,
-    line: &'a CallLine,
+pub fn end_at_once(
+    station: &mut Station<'_>,
+    line: &CallLine,
     room: &mut [u8],
 ) -> Result<bool, NoMemory>
     requires count { MayCount station.old }
@@ -169,7 +169,7 @@ fn turn_all(stations: &mut [Station<'_>]) -> Result<(), NoMemory>
 }
 
 /// Notes that the limit of a wait is reached.
-fn time_out<'a>(stations: &mut [Station<'a>], at: usize, line: &'a CallLine) -> Result<(), NoMemory>
+fn time_out(stations: &mut [Station<'_>], at: usize, line: &CallLine) -> Result<(), NoMemory>
     requires at { at < length stations.old }
     requires next { IsSomeNext line.now at stations.old }
     requires carried { AllCarried stations.old }
@@ -185,9 +185,9 @@ fn time_out<'a>(stations: &mut [Station<'a>], at: usize, line: &'a CallLine) -> 
 }
 
 /// Waits at a domain alone and notes how the wait ends. It makes its own turns alone.
-pub fn wait_alone<'a>(
-    station: &mut Station<'a>,
-    line: &'a CallLine,
+pub fn wait_alone(
+    station: &mut Station<'_>,
+    line: &CallLine,
     limit: u32,
     room: &mut [u8],
 ) -> Result<(), NoMemory>

@@ -32,8 +32,8 @@ returns c =
       packets = c.in_ok-domain.ensures.packets;
       told = c.in_ok-journal.ensures.lines;
       number = refl;
-      labels = λ label. ap (lookup (λ k. bytes_eq label k.now)) c.new-2.ensures.empty;
-      packet_labels = λ label. ap (lookup (λ k. bytes_eq label k.now)) c.new-3.ensures.empty;
+      labels = λ label. ap (lookup (λ k. bytes_eq label k.items)) c.new-2.ensures.empty;
+      packet_labels = λ label. ap (lookup (λ k. bytes_eq label k.items)) c.new-3.ensures.empty;
       dropped = refl;
       domain_number = refl;
     }
