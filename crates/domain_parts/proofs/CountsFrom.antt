@@ -10,7 +10,7 @@ use Rattle.mc_base.specs.declared.request.PacketId.{PacketId}
 use Rattle.mc_base.specs.declared.request.Slot.{Slot}
 use Rattle.board_model.specs.State as state
 use Rattle.board_model.specs.State.{Item, LentPacket, Request, frames_from, is_from, lent_from, queued_from, HeldFrame, holds_from}
-use Rattle.board_model.proofs.ListsCounts.{count-append, count-cons}
+use Rattle.board_model.proofs.ListsCounts.{count-cons}
 use Rattle.buffer_book.specs.Book as book
 use Rattle.buffer_book.specs.Book.{AreNone, Aside, Book, IsQueued, Shelf, aside_frames, count_of, frames_of, if_state, is_state, item_at, item_on, kept_at, lent_frames, queued_at, queued_frames, shelf_of, slot_of}
 use Rattle.endpoint_table.specs.Table as endpoint_table

@@ -57,7 +57,7 @@ All-exchanged P [] i y all new = tt
 All-exchanged P (z ∷ xs) zero y all new = (new, all.1)
 All-exchanged P (z ∷ xs) (suc i) y all new = (all.0, All-exchanged P xs i y all.1 new)
 
-number-there : {L : Type 0} (P : ℕ → Type 0) (ps : List (Peer L)) (i : ℕ) (p : Peer L) → AllByRecursion P (numbers_of ps) → slice_get ps i ≡ Some p → P p.number
+pub number-there : {L : Type 0} (P : ℕ → Type 0) (ps : List (Peer L)) (i : ℕ) (p : Peer L) → AllByRecursion P (numbers_of ps) → slice_get ps i ≡ Some p → P p.number
 number-there P [] i p all there = absurd cc
 number-there {L} P (z ∷ ps) zero p all there = let is : z ≡ p = cc in subst (λ (x : Peer L). P x.number) is all.0
 number-there P (z ∷ ps) (suc i) p all there = number-there P ps i p all.1 there

@@ -1,18 +1,18 @@
 -- A frame joins an item that is in a queue: what stands in the book after it, of all slots and of its lane.
-use Rattle.std.proofs.Common.{◌≡◌, ℕ, zero, suc, ◌+◌, ◌<◌, ◌≤◌, Bool, true, false, cond, List, [], ◌∷◌, ◌++◌, length, map, Option, Some, None, refl, sym, ap, ap₂, ◌∙◌, subst, arith, eq-eqb, length-append, append_assoc}
+use Rattle.std.proofs.Common.{◌≡◌, ℕ, ◌+◌, ◌<◌, ◌≤◌, Bool, true, false, cond, List, [], ◌∷◌, ◌++◌, length, map, Option, Some, None, refl, sym, ap, ap₂, ◌∙◌, subst, arith, eq-eqb, length-append, append_assoc}
 use Rattle.std.specs.Prelude.{count_by, is_some, option_and_then, option_to_list, nat_lt, ◌==◌, ◌&&◌}
 use Rattle.std.proofs.lemmas.Bool.{eqb-true}
 use Rattle.std.proofs.lemmas.List.{append-nil}
 use Rattle.mc_base.specs.Limits.{item_size}
 use Rattle.mc_base.specs.declared.request.Slot.{Slot}
-use Rattle.buffer_book.specs.Book.{Book, IsAway, Item, Kept, content, frames_of, if_state, is_state, item_at, kept_at, place_at, with_frame, with_joined}
+use Rattle.buffer_book.specs.Book.{Book, IsAway, Item, Kept, content, frames_of, if_state, is_state, item_at, kept_at, with_frame, with_joined}
 use Rattle.buffer_book.proofs.ItemLemmas.{joined-place}
 use Rattle.lane_end.specs.Numbers.{often}
 use Rattle.lane_end.proofs.CountLemmas.{often-append}
 use Rattle.domain_parts.specs.InBook.{Whole, channel_in, content_in, frames_at, frames_in, joined_content, pieces_in, pieces_of, priority_in, slot_at, source_in, whole_at, whole_of}
-use Rattle.domain_parts.specs.InPlaces.{IsNamed, IsShort, has_frame, is_same, one_if, times_in}
+use Rattle.domain_parts.specs.InPlaces.{IsNamed, has_frame, is_same, one_if, times_in}
 use Rattle.domain_parts.specs.Out.{Out}
-use Rattle.domain_parts.proofs.Books.{Changes, changed-item, differ-back, each-slot, frames-some, itself, joined-changes, kept-by, often-other, often-own, pieces-same, same-slot, whole-some}
+use Rattle.domain_parts.proofs.Books.{Changes, changed-item, differ-back, each-slot, frames-some, itself, joined-changes, kept-by, often-other, often-own, pieces-same, whole-some}
 use Rattle.domain_parts.proofs.Placed.{IsLane, Stands, away-frame, count-each, frame-kept, frame-true, item-times, no-frame, whole-there}
 use Rattle.domain_parts.proofs.Placing.{often-one, stands-after}
 
@@ -95,7 +95,7 @@ module _ (ss ls : List Slot) (b : Book) (st : Stands ss ls b) (s : Slot) (i : It
       go None some e = absurd cc
       go (Some p) some e = (p, pieces_of b s.peer i.more, e)
 
-  join-reads : (source_in (whole_at new_book s) ≡ source_in (whole_at b s)) × (priority_in (whole_at new_book s) ≡ priority_in (whole_at b s)) × (channel_in (whole_at new_book s) ≡ channel_in (whole_at b s))
+  pub join-reads : (source_in (whole_at new_book s) ≡ source_in (whole_at b s)) × (priority_in (whole_at new_book s) ≡ priority_in (whole_at b s)) × (channel_in (whole_at new_book s) ≡ channel_in (whole_at b s))
   join-reads = (rw (join-whole, first-there.2) refl, rw (join-whole, first-there.2) refl, rw (join-whole, first-there.2) refl)
 
   -- each buffer that is held is a frame of one item

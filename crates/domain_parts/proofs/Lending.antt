@@ -153,7 +153,7 @@ module _ (b : Book) (s : Slot) (i : book.Item) (is : item_at b s ≡ Some i) (qu
       )
 
   open-lent : (os : List OpenPart) → AreOpen b os → AreOpen b' os
-  open-lent os are = record { each = each-open os are.each; apart = are.apart; none = are.none }
+  open-lent os are = record { each = each-open os are.each; apart = are.apart }
 
   -- it is lent under its id
   abbrev id : PacketId

@@ -24,6 +24,10 @@ pub mod Handed
 pub mod OpenParts
 pub mod PartLists
 pub mod Joining
+pub mod PartEnds
+pub mod PartTakes
+pub mod PartPlaces
+pub mod PartStates
 pub mod ToldTurns
 pub mod PaidTables
 pub mod PeersAt
@@ -61,6 +65,7 @@ pub mod Pieces
 pub mod Judging
 pub mod Acting
 pub mod Items
+pub mod PieceDeals
 pub mod TurnSteps
 pub mod TurnMeaning
 pub mod ChannelMeaning

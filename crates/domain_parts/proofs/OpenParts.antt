@@ -1,5 +1,5 @@
 -- Open parts, by the book of buffers.
-use Rattle.std.proofs.Common.{◌≡◌, ℕ, Bool, true, false, List, [], ◌∷◌, ◌++◌, map, Option, sym, ap, ◌∙◌, subst, arith, refl}
+use Rattle.std.proofs.Common.{◌≡◌, List, [], ◌∷◌, Option, sym, ap, ◌∙◌, subst, arith, refl}
 use Rattle.std.specs.List.{AllByRecursion}
 use Rattle.mc_base.specs.declared.request.Slot.{Slot}
 use Rattle.board_model.proofs.ListsCounts.{count-cons}
@@ -34,4 +34,4 @@ module _ (b b' : Book) (s : Slot) (others : Others b b' s) where
       (subst (λ (w : Option Whole). IsOpenBy w o) (sym one.0) all.0, each_stays os one.1 all.1)
 
   pub open-stay : (os : List OpenPart) → times_in s (part_slots os) ≡ 0 → AreOpen b os → AreOpen b' os
-  open-stay os none are = record { each = each_stays os none are.each; apart = are.apart; none = are.none }
+  open-stay os none are = record { each = each_stays os none are.each; apart = are.apart }

@@ -139,7 +139,7 @@ module _ (sizes : List (ℕ × ℕ)) where
         once = λ n. let none = ap (λ (o : Option Kept). one_if (is_some o)) (kept-none (record { peer = number; buffer = n })) in omega (arith, none);
         apart = λ n. omega arith;
       } in
-      record { each = each; priorities = refl; lent = tt; parts = record { each = tt; apart = λ n. omega arith; none = refl } }
+      record { each = each; priorities = refl; lent = tt; parts = record { each = tt; apart = λ n. omega arith } }
 
 -- ---- nothing is owed
 

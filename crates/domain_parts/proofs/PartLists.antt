@@ -1,5 +1,5 @@
 -- The list of open parts, as the state reads it: at most one a peer.
-use Rattle.std.proofs.Common.{◌≡◌, ℕ, zero, suc, ◌+◌, ◌<◌, ◌≤◌, Bool, true, false, cond, List, [], ◌∷◌, ◌++◌, length, map, Option, Some, None, refl, sym, ap, ap₂, ◌∙◌, arith, eq-eqb, ne_eqb, subst}
+use Rattle.std.proofs.Common.{◌≡◌, ℕ, ◌+◌, ◌≤◌, Bool, true, false, cond, List, [], ◌∷◌, ◌++◌, map, Option, Some, None, refl, sym, ap, ap₂, ◌∙◌, arith, eq-eqb, ne_eqb, subst}
 use Rattle.std.specs.Prelude.{count_by, filter, find, not, option_map, ◌==◌, nat_lt, ◌&&◌}
 use Rattle.std.proofs.lemmas.Bool.{eqb-true}
 use Rattle.std.proofs.lemmas.List.Elements.{filter-append}
@@ -7,7 +7,7 @@ use Rattle.mc_base.specs.Limits.{domain_limit}
 use Rattle.mc_base.specs.declared.request.Slot.{Slot}
 use Rattle.board_model.proofs.ListsCounts.{count-cons, count-append}
 use Rattle.board_model.specs.Change.{held_as}
-use Rattle.board_model.specs.State.{HeldFrame, Part, holds_from}
+use Rattle.board_model.specs.State.{HeldFrame, holds_from}
 use Rattle.buffer_book.specs.Book.{Book}
 use Rattle.lane_end.specs.Numbers.{AreApart, often, inside}
 use Rattle.lane_end.proofs.CountLemmas.{often-append, tick}
@@ -154,7 +154,7 @@ with-apart o os apart few m = go (m == o.slot.peer) refl
         omega (arith, sum, none, was)
 
 -- the others are of other peers
-none-often : (n : ℕ) (os : List OpenPart) → often n (peers_of os) ≡ 0 → find (is_part_of n) os ≡ None
+pub none-often : (n : ℕ) (os : List OpenPart) → often n (peers_of os) ≡ 0 → find (is_part_of n) os ≡ None
 none-often n [] none = refl
 none-often n (o ∷ os) none = go (o.slot.peer == n) refl (λ e. none-often n os e)
   where

@@ -15,7 +15,9 @@ use Rattle.board_model.specs.TakenFrames.{row, row_from, row_of}
 use Rattle.domain_parts.specs.declared.parts.OpenPart.{OpenPart}
 use Rattle.domain_parts.specs.declared.parts.Piece.{Piece}
 use Rattle.domain_parts.specs.Growing.{IsNoPiece, IsPiece, IsRead, begun_by, grown_by, is_whole}
-use Rattle.domain_parts.specs.Pieces.{carrier_in, part_with}
+use Rattle.domain_parts.specs.Pieces.{carrier_by, carrier_in, carrier_of, channel_in, kind_in, part_with, priority_in}
+use Rattle.domain_parts.specs.declared.parts.Carrier.{Carrier}
+use Rattle.domain_parts.specs.declared.parts.Carrier.TheVariants as carrier
 use Rattle.domain_parts.specs.Verdicts.{letter_row}
 use Rattle.domain_parts.proofs.PieceReadings.{CarriesPiece, and-both, piece-read}
 
@@ -47,6 +49,16 @@ pub begins-so : (p : Piece) (q : PlainPiece) → IsPiece p q → false ≡ begin
 unfolding begins
 begins-so p q is = refl
 
+-- no part begins so far
+pub begins-none : (q : PlainPiece) → begins q ≡ true → ⊥
+unfolding begins
+begins-none q is = absurd cc
+
+-- a part that begins is carried as its first piece is
+pub carrier-begun : (c : Carrier) → carrier_by (kind_in c) (priority_in c) (channel_in c) ≡ carrier_in c
+carrier-begun (carrier.Message priority) = refl
+carrier-begun (carrier.Packet channel) = refl
+
 -- with a piece more, a part is whole or not
 module _ (joins : Bool) (p : Part) (q : PlainPiece) where
   abbrev grown_so : Bool → Coming
@@ -73,7 +85,7 @@ module _ (p : Piece) (q : PlainPiece) (is : IsPiece p q) where
       joins_so : coming (Some here) (brings p.source p.destination q) ≡ grown true here q
       joins_so = ap (λ b. cond b (grown true here q) (alone p.source p.destination q)) on
 
-      pub joins-whole : is_whole (grown_by o p) ≡ true → coming (Some here) (brings p.source p.destination q) ≡ coming_so (says o.source o.destination (carried (carrier_in o.carrier) (content ++ q.content))) None true
+      pub joins-whole : is_whole (grown_by o p) ≡ true → coming (Some here) (brings p.source p.destination q) ≡ coming_so (says o.source o.destination (carried (carrier_of o) (content ++ q.content))) None true
       joins-whole whole = joins_so ∙ by_size true here q true (size_so ∙ whole)
 
       pub joins-held : is_whole (grown_by o p) ≡ false → coming (Some here) (brings p.source p.destination q) ≡ coming_so (brings o.source o.destination q) (Some (part_with (grown_by o p) (content ++ q.content))) true
@@ -84,7 +96,7 @@ module _ (p : Piece) (q : PlainPiece) (is : IsPiece p q) where
       joins-same =
           let a = and-both (o.source == p.source) _ on in
           let b = and-both (o.destination == p.destination) _ a.1 in
-          let c = and-both (same_carrier (carrier_in o.carrier) q.carrier) _ b.1 in
+          let c = and-both (same_carrier (carrier_of o) q.carrier) _ b.1 in
           let d = and-both (o.total == q.total) _ c.1 in
           (eqb-true o.source p.source a.0, eqb-true o.destination p.destination b.0, eqb-true o.total q.total d.0 ∙ is.total, sym came ∙ eqb-true (length content) q.offset d.1 ∙ is.offset)
 
@@ -117,7 +129,7 @@ module _ (p : Piece) (q : PlainPiece) (is : IsPiece p q) where
     pub begins-held : is_whole (begun_by slot p) ≡ false → alone p.source p.destination q ≡ coming_so (brings p.source p.destination q) (Some (part_with (begun_by slot p) q.content)) false
     begins-held more =
         begins_so ∙ by_size false (begun p.source p.destination q) q false (begun_so ∙ more)
-        ∙ ap₂ (λ k n. coming_so (brings p.source p.destination q) (Some (record { source = p.source; destination = p.destination; carrier = k; total = n; content = q.content })) false) is.carrier is.total
+        ∙ ap₂ (λ k n. coming_so (brings p.source p.destination q) (Some (record { source = p.source; destination = p.destination; carrier = k; total = n; content = q.content })) false) (is.carrier ∙ sym (carrier-begun p.carrier)) is.total
 
 pub stray : (source destination : ℕ) (q : PlainPiece) → begins q ≡ false → alone source destination q ≡ coming_so (brings source destination q) None false
 stray source destination q none = ap (λ b. cond b (grown false (begun source destination q) q) (coming_so (brings source destination q) None false)) none

@@ -28,7 +28,7 @@ abbrev pub WasPut : {L : Type 0} → (L → List LaneMove → L → Type 0) → 
 WasPut M [] start now = now ≡ start
 WasPut M (f ∷ fs) start now = Did M (putting_all (f ∷ fs)) start now
 
--- So many of the parts were put and noted, and these bytes, which begin at an offset, are left to go in the others
+-- so many of the parts were put and noted, and these bytes, which begin at an offset, are left to go in the others
 pub record PartsPut {L : Type 0} (M : L → List LaneMove → L → Type 0) (o : Outgoing) (cut count : ℕ) (start now : Holding L) (begun lines : List Line) (gone offset : ℕ) (rest : List ℕ) : Type 0 where
   pub sent : List (ℕ × List ℕ)
   pub left : ℕ

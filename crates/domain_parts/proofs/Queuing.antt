@@ -54,7 +54,7 @@ content-in_buffer bytes len size fits =
     let le : size ≤ len - 24 = omega arith in
     ap (λ (n : ℕ). take size (drop 24 (take n bytes))) split ∙ ap (λ (xs : List ℕ). take size xs) (drop-take 24 (len - 24) bytes) ∙ take-take size (len - 24) (drop 24 bytes) le
 
-source-in_buffer : (bytes : List ℕ) (len size : ℕ) → 24 + size ≤ length (take len bytes) → source_of (take len bytes) ≡ source_of bytes
+pub source-in_buffer : (bytes : List ℕ) (len size : ℕ) → 24 + size ≤ length (take len bytes) → source_of (take len bytes) ≡ source_of bytes
 source-in_buffer bytes len size fits =
     let bound : 0 + 4 ≤ len = omega (arith, length-take len bytes) in
     little_from-take 0 4 len bytes bound
@@ -64,13 +64,13 @@ kind-in_buffer bytes len size fits =
     let bound : 18 < len = omega (arith, length-take len bytes) in
     get_or-take len bytes 18 0 bound
 
-priority-in_buffer : (bytes : List ℕ) (len size : ℕ) → 24 + size ≤ length (take len bytes) → priority_of (take len bytes) ≡ priority_of bytes
+pub priority-in_buffer : (bytes : List ℕ) (len size : ℕ) → 24 + size ≤ length (take len bytes) → priority_of (take len bytes) ≡ priority_of bytes
 priority-in_buffer bytes len size fits =
     let bound : 19 < len = omega (arith, length-take len bytes) in
     ap (λ (k : ℕ). if k == 1 then slice_index (take len bytes) 19 else 0) (kind-in_buffer bytes len size fits)
     ∙ ap (λ (n : ℕ). if slice_index bytes 18 == 1 then n else 0) (get_or-take len bytes 19 0 bound)
 
-channel-in_buffer : (bytes : List ℕ) (len size : ℕ) → 24 + size ≤ length (take len bytes) → channel_of (take len bytes) ≡ channel_of bytes
+pub channel-in_buffer : (bytes : List ℕ) (len size : ℕ) → 24 + size ≤ length (take len bytes) → channel_of (take len bytes) ≡ channel_of bytes
 channel-in_buffer bytes len size fits =
     let cut = length-take len bytes in
     let split : len ≡ 20 + (len - 20) = omega (arith, cut) in
@@ -85,7 +85,7 @@ matched : (n m : ℕ) → n ≡ m → one_if (not (n == m)) ≡ 0
 matched n m same = ap (λ (b : Bool). one_if (not b)) (eq-eqb n m same)
 
 -- how a receive is complete with an item
-handed-item : (b : Book) (a : Ask) (s : Slot) → outcome_in b (handed_by a s) ≡ state.has_item (numbered_at b s)
+pub handed-item : (b : Book) (a : Ask) (s : Slot) → outcome_in b (handed_by a s) ≡ state.has_item (numbered_at b s)
 handed-item b (ask.Message at max) s = refl
 handed-item b (ask.Packet at) s = refl
 handed-item b (ask.Lookup name) s = refl

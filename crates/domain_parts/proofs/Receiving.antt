@@ -21,6 +21,7 @@ use Rattle.request_set.specs.declared.ask.Complete.{Complete}
 use Rattle.request_set.specs.declared.ask.Complete.TheVariants as complete
 use Rattle.request_set.specs.Requests.{Requests, without_request}
 use Rattle.domain_parts.specs.LaneSeen.{LaneSeen}
+use Rattle.domain_parts.specs.declared.parts.OpenPart.{OpenPart}
 use Rattle.domain_parts.specs.declared.peer.Peer.{Peer}
 use Rattle.domain_parts.specs.GivingBack.{AreOutAt, GivesBack}
 use Rattle.domain_parts.specs.InBook.{content_in, endpoints_in, frames_at, item_in, numbered_at, open_parts, outcome_in, packets_in, request_in, requests_in, whole_at}
@@ -51,24 +52,28 @@ module _ {L : Type 0} (M : L → List LaneMove → L → Type 0) (m-none : (l : 
   abbrev left_book : Book
   left_book = without_frames b s None (frames_at b s)
 
-  abbrev was : List PartRead
-  was = open_parts b r.parts
-
-  -- what is held is read as before, though an item is no more in the book
-  pub given-state : HasMore s (slots_of r' q') (slots_of r q) → AllByRecursion (InPlacesAt v b r q) ps → q'.given ≡ q.given → r'.channels ≡ r.channels → r'.lent ≡ r.lent → r'.parts ≡ r.parts → state_in v left_book r' q' t ps' ≡ record before { endpoints = endpoints_in b r'.endpoints; requests = requests_in b q'.standing }
-  given-state more places given numbered lends opens =
+  -- what is held is read as before, though an item is no more in the book, and the parts that are open are those of the records
+  pub given-read : HasMore s (slots_of r' q') (slots_of r q) → AllByRecursion (InPlacesAt v b r q) ps → q'.given ≡ q.given → r'.channels ≡ r.channels → r'.lent ≡ r.lent
+      → state_in v left_book r' q' t ps' ≡ record before { endpoints = endpoints_in b r'.endpoints; requests = requests_in b q'.standing; peers = peers_in v (open_parts b r'.parts) t ps; held = held_in (open_parts b r'.parts) }
+  given-read more places given numbered lends =
       let p = gives.peer in
       let here = All-at (InPlacesAt v b r q) ps gives.place p places gives.there in
-      let read : open_parts left_book r'.parts ≡ open_parts b r.parts = left-parts r r' q q' b s more p.number (out_at v p) here ∙ ap (open_parts b) opens in
-      let made : List state.Endpoint → List state.Peer → List state.Request → ℕ → DomainState = λ es xs rs n. record before { endpoints = es; peers = xs; requests = rs; requests_given = n } in
-      ap (λ (os : List PartRead). record (state_in v left_book r' q' t ps') { peers = peers_in v os t ps'; held = held_in os }) read
-      ∙ ap (λ (n : ℕ). record (state_in v left_book r' q' t ps') { peers = peers_in v was t ps'; held = held_in was; packets_lent = n }) (without-lends b s None (frames_at b s))
-      ∙ ap (λ (n : ℕ). record (state_in v left_book r' q' t ps') { peers = peers_in v was t ps'; held = held_in was; channels_given = n; packets_lent = b.lends }) numbered
-      ∙ ap (λ (xs : List LentPacket). record (state_in v left_book r' q' t ps') { peers = peers_in v was t ps'; held = held_in was; channels_given = r.channels; lent = xs; packets_lent = b.lends }) (left-packets r r' q q' b s more p.number (out_at v p) here lends ∙ ap (packets_in b) lends)
-      ∙ ap (λ (es : List state.Endpoint). made es (peers_in v was t ps') (requests_in left_book q'.standing) q'.given) (left-endpoints r r' q q' b s more p.number (out_at v p) here)
-      ∙ ap (λ (xs : List state.Peer). made (endpoints_in b r'.endpoints) xs (requests_in left_book q'.standing) q'.given) (given-peers M v s.peer (frames_at b s) ps ps' gives was t)
-      ∙ ap (λ (rs : List state.Request). made (endpoints_in b r'.endpoints) (peers_in v was t ps) rs q'.given) (left-requests r r' q q' b s more p.number (out_at v p) here)
-      ∙ ap (λ (n : ℕ). made (endpoints_in b r'.endpoints) (peers_in v was t ps) (requests_in b q'.standing) n) given
+      let now : List PartRead = open_parts b r'.parts in
+      let made : List state.Endpoint → List state.Peer → List state.Request → ℕ → DomainState = λ es xs rs n. record before { endpoints = es; peers = xs; requests = rs; requests_given = n; held = held_in now } in
+      ap (λ (os : List PartRead). record (state_in v left_book r' q' t ps') { peers = peers_in v os t ps'; held = held_in os }) (left-parts r r' q q' b s more p.number (out_at v p) here)
+      ∙ ap (λ (n : ℕ). record (state_in v left_book r' q' t ps') { peers = peers_in v now t ps'; held = held_in now; packets_lent = n }) (without-lends b s None (frames_at b s))
+      ∙ ap (λ (n : ℕ). record (state_in v left_book r' q' t ps') { peers = peers_in v now t ps'; held = held_in now; channels_given = n; packets_lent = b.lends }) numbered
+      ∙ ap (λ (xs : List LentPacket). record (state_in v left_book r' q' t ps') { peers = peers_in v now t ps'; held = held_in now; channels_given = r.channels; lent = xs; packets_lent = b.lends }) (left-packets r r' q q' b s more p.number (out_at v p) here lends ∙ ap (packets_in b) lends)
+      ∙ ap (λ (es : List state.Endpoint). made es (peers_in v now t ps') (requests_in left_book q'.standing) q'.given) (left-endpoints r r' q q' b s more p.number (out_at v p) here)
+      ∙ ap (λ (xs : List state.Peer). made (endpoints_in b r'.endpoints) xs (requests_in left_book q'.standing) q'.given) (given-peers M v s.peer (frames_at b s) ps ps' gives now t)
+      ∙ ap (λ (rs : List state.Request). made (endpoints_in b r'.endpoints) (peers_in v now t ps) rs q'.given) (left-requests r r' q q' b s more p.number (out_at v p) here)
+      ∙ ap (λ (n : ℕ). made (endpoints_in b r'.endpoints) (peers_in v now t ps) (requests_in b q'.standing) n) given
+
+  -- and where they are the same, so are the peers
+  pub given-state : HasMore s (slots_of r' q') (slots_of r q) → AllByRecursion (InPlacesAt v b r q) ps → q'.given ≡ q.given → r'.channels ≡ r.channels → r'.lent ≡ r.lent → r'.parts ≡ r.parts → state_in v left_book r' q' t ps' ≡ record before { endpoints = endpoints_in b r'.endpoints; requests = requests_in b q'.standing }
+  given-state more places given numbered lends opens =
+      given-read more places given numbered lends
+      ∙ ap (λ (os : List OpenPart). record before { endpoints = endpoints_in b r'.endpoints; requests = requests_in b q'.standing; peers = peers_in v (open_parts b os) t ps; held = held_in (open_parts b os) }) opens
 
 -- an item is short
 pub content-fits : {L : Type 0} (v : L → LaneSeen) (b : Book) (r : Records) (q : Requests) (t : endpoint_table.Table) (ps : List (Peer L)) → AreSound v b r q t ps → (s : Slot) → length (content_in (whole_at b s)) ≤ item_size

@@ -236,7 +236,7 @@ module _ (p : Parts) (sound : Sound p) (i : ℕ) (x : Peer LaneSeen) (there : sl
   but-one = taken-places x.number p.records p.requests p.book n _ _ _ _ refl refl apart (All-at (λ (y : Peer LaneSeen). AreInPlaces y.number p.records p.requests p.book (out_at plain y)) p.peers i x sound.places there)
 
   -- it is kept
-  kept-sound : (frame : List ℕ) (b : Book) (r : Records) (q : Requests) → SameEndpoints p.records r → r.lent ≡ p.records.lent → AreInPlaces x.number r q b now → KeepOthers x.number p.records p.requests p.book r q b → ((k : ℕ) → is_some (shelf_of b k) ≡ is_some (shelf_of p.book k)) → AreReceives q
+  pub kept-sound : (frame : List ℕ) (b : Book) (r : Records) (q : Requests) → SameEndpoints p.records r → r.lent ≡ p.records.lent → AreInPlaces x.number r q b now → KeepOthers x.number p.records p.requests p.book r q b → ((k : ℕ) → is_some (shelf_of b k) ≡ is_some (shelf_of p.book k)) → AreReceives q
       → Sound (record { book = b; records = r; requests = q; table = p.table; peers = map (moved_peer (at_peer x.number (receiver (Took n frame) ∷ []))) p.peers })
   kept-sound frame b r q same lends placed others shelves receives =
       let ms = receiver (Took n frame) ∷ [] in

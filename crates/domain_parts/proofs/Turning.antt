@@ -18,12 +18,10 @@ use Rattle.domain_parts.specs.Sound.{AreRising}
 use Rattle.domain_parts.specs.LaneMoves.{LaneMove, sender}
 use Rattle.domain_parts.specs.LaneSeen.{LaneSeen, after_move, after_moves}
 use Rattle.domain_parts.specs.Parts.{Holding, Parts, Sound, holding_in, nobody, parts_in, peer_at, peer_seen, peers_seen, plain, state_of}
-use Rattle.domain_parts.specs.Records.{Records, all_waiting}
+use Rattle.domain_parts.specs.Records.{Records}
 use Rattle.domain_parts.specs.Steps.{Did, Step, all_moves, at_peer, done, done_all, changed_peer, moved_peer, names_told, reply_owed, reply_put, step_moves, with_names, with_reply, with_reply_put}
-use Rattle.domain_parts.specs.InRequests.{handed_slots}
 use Rattle.domain_parts.proofs.CountsFrom as counts
 use Rattle.domain_parts.proofs.CountsFrom.{count-both, lent-is, queued-is, count-three}
-use Rattle.domain_parts.proofs.Slots.{slots}
 use Rattle.domain_parts.proofs.PeerPlaces.{All-from}
 use Rattle.domain_parts.proofs.Stepping.{did-then, done-numbers, moves-append, one-moved, one-seen}
 use Rattle.domain_parts.proofs.Tables.{slice_get-read}

@@ -4,7 +4,7 @@ use Rattle.std.specs.Prelude.{◌≡◌, ℕ, ◌+◌, Bool, ◌==◌, List, len
 use Rattle.mc_base.specs.Letter as letter
 use Rattle.mc_base.specs.Reading.{Reading, brings, reading}
 use Rattle.mc_base.specs.declared.request.Slot.{Slot}
-use Rattle.domain_parts.specs.Pieces.{carrier_in}
+use Rattle.domain_parts.specs.Pieces.{carrier_in, channel_in, kind_in, priority_in}
 use Rattle.domain_parts.specs.declared.parts.OpenPart.{OpenPart}
 use Rattle.domain_parts.specs.declared.parts.Piece.{Piece}
 
@@ -35,7 +35,7 @@ pub record IsRead (r : Reading) : Type 0 where
 
 -- a piece begins it, whose buffer has this slot
 abbrev pub begun_by : Slot → Piece → OpenPart
-begun_by slot p = record { slot = slot; source = p.source; destination = p.destination; carrier = p.carrier; total = p.total; size = p.size }
+begun_by slot p = record { slot = slot; source = p.source; destination = p.destination; kind = kind_in p.carrier; priority = priority_in p.carrier; channel = channel_in p.carrier; total = p.total; size = p.size }
 
 -- a piece comes to it
 abbrev pub grown_by : OpenPart → Piece → OpenPart

@@ -12,7 +12,7 @@ use Rattle.request_set.specs.Requests.{Requests}
 use Rattle.domain_parts.specs.Records.{Records, all_waiting, lent_slots, part_slots}
 pub use Rattle.domain_parts.specs.InBook.{slot_at}
 use Rattle.domain_parts.specs.InBook.{Whole, channel_in, content_in, frames_at, priority_in, source_in, whole_at}
-use Rattle.domain_parts.specs.Pieces.{carrier_channel, carrier_in, carrier_priority}
+use Rattle.domain_parts.specs.Pieces.{carrier_channel, carrier_of, carrier_priority}
 use Rattle.domain_parts.specs.declared.parts.OpenPart.{OpenPart}
 use Rattle.domain_parts.specs.InRequests.{handed_slots}
 use Rattle.lane_end.specs.Numbers.{often, AreApart}
@@ -90,19 +90,18 @@ IsLentAs b id = is_some (lent_item b id) ≡ true
 pub record IsOpenBy (w : Option Whole) (o : OpenPart) : Type 0 where
   pub size : length (content_in w) ≡ o.size
   pub source : source_in w ≡ o.source
-  pub priority : priority_in w ≡ carrier_priority (carrier_in o.carrier)
-  pub channel : channel_in w ≡ carrier_channel (carrier_in o.carrier)
+  pub priority : priority_in w ≡ carrier_priority (carrier_of o)
+  pub channel : channel_in w ≡ carrier_channel (carrier_of o)
   pub within : o.size ≤ o.total
   pub most : o.total ≤ item_size
 
 abbrev pub IsOpenAs : Book → OpenPart → Type 0
 IsOpenAs b o = IsOpenBy (whole_at b o.slot) o
 
--- no peer has two. Today none has one: no piece begins a part
+-- no peer has two
 pub record AreOpen (b : Book) (os : List OpenPart) : Type 0 where
   pub each : AllByRecursion (IsOpenAs b) os
   pub apart : AreApart domain_limit (map (λ o. o.slot.peer) os)
-  pub none : os ≡ []
 
 -- each buffer of the lane from a peer that is out is in one place, but for these, and what waits has the priority of its first frame
 pub record AreInPlacesBeside (ns : List ℕ) (number : ℕ) (r : Records) (q : Requests) (b : Book) (o : Out) : Type 0 where

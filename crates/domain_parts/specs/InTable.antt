@@ -2,7 +2,7 @@
 -- Source: the code of the table.
 use Rattle.std.specs.Prelude.{◌≡◌, ℕ, ◌+◌, ◌<◌, ◌≤◌, List, [], ◌∷◌, length, Option, None, Some, vec_capacity}
 use Rattle.std.specs.List.{AllByRecursion}
-use Rattle.mc_base.specs.Limits.{first_address, record_limit}
+use Rattle.mc_base.specs.Limits.{domain_limit, first_address, record_limit}
 use Rattle.message_queue.specs.Queue.{Queue, empty_queue}
 use Rattle.packet_channel.specs.End.{end_of, kept_end}
 use Rattle.packet_channel.specs.declared.channel.Channel.{Channel}
@@ -11,7 +11,7 @@ use Rattle.domain_parts.specs.declared.endpoints.Endpoints.TheInside.{Inside}
 use Rattle.domain_parts.specs.Records.{Records}
 
 abbrev pub records_of : Inside → Records
-records_of t = record { number = t.number; endpoints = t.records.items; given = t.given; channels = t.channels; lent = t.lent.items; parts = []; room = t.room }
+records_of t = record { number = t.number; endpoints = t.records.items; given = t.given; channels = t.channels; lent = t.lent.items; parts = t.parts.items; room = t.room }
 
 -- each queue has room for so many
 abbrev pub HaveRoom : ℕ → List Endpoint → Type 0
@@ -60,3 +60,4 @@ pub record HasQueues (t : Inside) : Type 0 where
   pub records_room : record_limit ≤ vec_capacity t.records
   pub spare_room : record_limit ≤ vec_capacity t.spare
   pub lent_room : t.room ≤ vec_capacity t.lent
+  pub parts_room : domain_limit ≤ vec_capacity t.parts

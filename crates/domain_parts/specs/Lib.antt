@@ -33,11 +33,13 @@ pub mod Awaiting
 pub mod Waiting
 pub mod Growing
 pub mod Verdicts
+pub mod Dealt
 pub mod Accepting
 pub mod Items
 pub mod Doing
 pub mod HoldingParts
 pub mod GivingBack
+pub mod EndedParts
 pub mod Opening
 pub mod Opened
 pub mod Carrying

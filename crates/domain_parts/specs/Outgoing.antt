@@ -1,7 +1,7 @@
 -- Messages and packets on their way to a peer, and the frames in which they go.
 -- Source: docs/FORMATS.md, "Payload header, version 2".
 use Rattle.std.specs.Prelude.{◌≡◌, ◌<◌, ℕ, zero, suc, ◌-◌, List, length, map}
-use Rattle.mc_base.specs.Letter.{Carrier, of_message, of_packet, PlainLetter, carried, piece_spelling}
+use Rattle.mc_base.specs.Letter.{PlainLetter, carried, piece_spelling}
 use Rattle.mc_base.specs.Pieces.{parts_from}
 use Rattle.board_model.specs.Answer.{Post, post, put_as}
 use Rattle.domain_parts.specs.declared.outgoing.Outgoing.{Outgoing}

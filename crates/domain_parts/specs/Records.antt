@@ -84,7 +84,7 @@ with_last_lent r id = record r { lent = r.lent ++ id ∷ [] }
 abbrev pub without_lent_at : Records → ℕ → Records
 without_lent_at r i = record r { lent = without_at i r.lent }
 
--- no part of a peer is open, and this part of its peer is
+-- without the open part of a peer, and with this one in its place
 abbrev pub is_part_of : ℕ → OpenPart → Bool
 is_part_of peer o = o.slot.peer == peer
 

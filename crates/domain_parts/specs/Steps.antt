@@ -16,7 +16,7 @@ use Rattle.lane_end.specs.SendMoves.{Looked, Sent}
 use Rattle.lane_end.specs.ReceiveMoves.{Gave, Took}
 use Rattle.lane_end.specs.ReceiveMoves as receiving
 use Rattle.board_model.specs.Lists as lists
-use Rattle.buffer_book.specs.Book.{Book, kept_in_buffer, slot_of, with_lent, with_queued, with_taken}
+use Rattle.buffer_book.specs.Book.{Book, kept_in_buffer, slot_of, with_joined, with_lent, with_queued, with_taken}
 use Rattle.endpoint_table.specs.Table as endpoint_table
 use Rattle.request_set.specs.declared.ask.Ask.{Ask}
 use Rattle.request_set.specs.declared.ask.Ask.TheVariants as ask
@@ -26,6 +26,7 @@ use Rattle.request_set.specs.Requests.{Requests, with_complete}
 use Rattle.message_queue.specs.Queue.{waiting}
 use Rattle.packet_channel.specs.declared.channel.Channel.{Channel}
 use Rattle.domain_parts.specs.LaneSeen.{LaneSeen, after_move, after_moves}
+use Rattle.domain_parts.specs.declared.parts.OpenPart.{OpenPart}
 use Rattle.domain_parts.specs.declared.peer.Peer.{Peer}
 use Rattle.domain_parts.specs.declared.replies.Reply.{Reply}
 use Rattle.domain_parts.specs.declared.requests.Waiters.TheVariants as waiters
@@ -34,7 +35,7 @@ use Rattle.domain_parts.specs.InPlaces.{slot_at}
 use Rattle.domain_parts.specs.InRequests.{handed_by, with_all_complete}
 use Rattle.domain_parts.specs.LaneMoves.{LaneMove, sender, receiver}
 use Rattle.domain_parts.specs.Parts.{Holding, Parts}
-use Rattle.domain_parts.specs.Records.{Records, with_best_taken_at, with_channel_at, with_channel_given, with_last_lent, with_oldest_taken_at, with_record, with_waiting_at, without_lent_at, without_record_at}
+use Rattle.domain_parts.specs.Records.{Records, with_best_taken_at, with_channel_at, with_channel_given, with_last_lent, with_oldest_taken_at, with_record, with_part_open, with_waiting_at, without_lent_at, without_part_of, without_record_at}
 
 -- each peer, after the moves at the peer of its number
 abbrev pub moved_peer : (ℕ → List LaneMove) → Peer LaneSeen → Peer LaneSeen
@@ -92,6 +93,18 @@ pub data Step : Type 0 where
   frame_handed : ℕ → Stored → ℕ → ℕ → RequestId → Ask → Step
   -- it is taken in the buffer of this number, which is given back at once
   frame_returned : ℕ → ℕ → List ℕ → Step
+  -- it is taken in this buffer, and so many of its bytes are those of a piece: this part of the peer begins with it, or the open one goes
+  -- on with it and is this part from then on
+  part_begun : OpenPart → Stored → ℕ → Step
+  part_grown : OpenPart → Stored → ℕ → ℕ → Step
+  -- the open part of a peer, which this slot names, is whole: it is last in the queue at a place, with this priority; or the request with
+  -- this id, which asks so, is complete with it
+  part_queued : Slot → ℕ → ℕ → Step
+  part_handed : Slot → RequestId → Ask → Step
+  -- the open part of a peer, which this slot names and which has these frames, ends; and it does so between taking a frame and what else
+  -- another step does
+  part_ended : Slot → List ℕ → Step
+  frame_after : Slot → List ℕ → Step → Step
   -- these names are known of a peer; lookups of a name are complete with its address
   names_told : ℕ → Names → Step
   name_told : EndName → ℕ → Step
@@ -120,6 +133,10 @@ book_after (oldest_dropped i s fs) b = without_frames b s None fs
 book_after (message_ended place s fs) b = without_frames b s None fs
 book_after (frame_queued peer buffer len size i priority) b = with_queued b (slot_at peer buffer.number) (kept_in_buffer buffer 24 size)
 book_after (frame_handed peer buffer len size id a) b = with_queued b (slot_at peer buffer.number) (kept_in_buffer buffer 24 size)
+book_after (part_begun o buffer len) b = with_queued b o.slot (kept_in_buffer buffer 28 o.size)
+book_after (part_grown o buffer len size) b = with_joined b o.slot (kept_in_buffer buffer 28 size)
+book_after (part_ended s fs) b = without_frames b s None fs
+book_after (frame_after s fs c) b = book_after c (without_frames b s None fs)
 book_after (oldest_lent i id) b = with_lent b (slot_of id)
 book_after (packet_ended place id) b = with_lent b (slot_of id)
 book_after (packet_released i id fs) b = without_frames b (slot_of id) (Some id.serial) fs
@@ -136,6 +153,12 @@ records_after (packet_begun i s id at) r = with_oldest_taken_at r i
 records_after (packet_ended place id) r = with_last_lent r id
 records_after (packet_released i id fs) r = without_lent_at r i
 records_after (frame_queued peer buffer len size i priority) r = with_waiting_at r i (waiting (slot_at peer buffer.number) priority)
+records_after (part_begun o buffer len) r = with_part_open r o
+records_after (part_grown o buffer len size) r = with_part_open r o
+records_after (part_queued s i priority) r = with_waiting_at (without_part_of r s.peer) i (waiting s priority)
+records_after (part_handed s id a) r = without_part_of r s.peer
+records_after (part_ended s fs) r = without_part_of r s.peer
+records_after (frame_after s fs c) r = records_after c (without_part_of r s.peer)
 records_after (channel_set i c) r = with_channel_at r i c
 records_after channel_given r = with_channel_given r
 records_after other r = r
@@ -157,6 +180,8 @@ requests_after (packet_ended place id) q = without_at q place
 requests_after (request_ended place) q = without_at q place
 requests_after (message_ended place s fs) q = without_at q place
 requests_after (frame_handed peer buffer len size id a) q = with_complete q id (handed_by a (slot_at peer buffer.number))
+requests_after (part_handed s id a) q = with_complete q id (handed_by a s)
+requests_after (frame_after s fs c) q = requests_after c q
 requests_after (name_told name address) q = with_all_complete q (waiters.Lookups name) (complete.Address address)
 requests_after (connect_settled number how) q = with_all_complete q (waiters.Connects number) how
 requests_after (receives_ended at word) q = with_all_complete q (waiters.Receives at) (complete.Ended word)
@@ -166,11 +191,17 @@ abbrev pub table_after : Step → endpoint_table.Table → endpoint_table.Table
 table_after (endpoint_made domain at address) t = endpoint_table.created t at
 table_after (endpoint_gone i at) t = endpoint_table.deleted t at
 table_after (owed_put peer frame) t = endpoint_table.paid_to t peer
+table_after (frame_after s fs c) t = table_after c t
 table_after other t = t
 
 -- moves at one peer, by its number
 abbrev pub at_peer : ℕ → List LaneMove → ℕ → List LaneMove
 at_peer peer ms n = cond (peer == n) ms []
+
+-- buffers are given back after the first move
+abbrev pub giving_after : List ℕ → List LaneMove → List LaneMove
+giving_after fs [] = []
+giving_after fs (m ∷ ms) = m ∷ (giving fs ++ ms)
 
 -- the moves at the peer of a number
 abbrev pub step_moves : Step → ℕ → List LaneMove
@@ -185,6 +216,10 @@ step_moves (looked_ahead peer count) n = at_peer peer (receiver (receiving.Looke
 step_moves (frame_queued peer buffer len size i priority) n = at_peer peer (receiver (Took buffer.number (take len buffer.bytes)) ∷ []) n
 step_moves (frame_handed peer buffer len size id a) n = at_peer peer (receiver (Took buffer.number (take len buffer.bytes)) ∷ []) n
 step_moves (frame_returned peer number frame) n = at_peer peer (receiver (Took number frame) ∷ receiver (Gave number) ∷ []) n
+step_moves (part_begun o buffer len) n = at_peer o.slot.peer (receiver (Took buffer.number (take len buffer.bytes)) ∷ []) n
+step_moves (part_grown o buffer len size) n = at_peer o.slot.peer (receiver (Took buffer.number (take len buffer.bytes)) ∷ []) n
+step_moves (part_ended s fs) n = at_peer s.peer (giving fs) n
+step_moves (frame_after s fs c) n = giving_after fs (step_moves c n)
 step_moves (reply_put peer frame) n = at_peer peer (sender (Sent frame) ∷ []) n
 step_moves other n = []
 

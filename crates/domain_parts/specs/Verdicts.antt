@@ -16,7 +16,7 @@ use Rattle.mc_base.specs.declared.refusal.Refusal.TheVariants.{ChanClosed}
 use Rattle.mc_base.specs.declared.request.RequestId.{RequestId}
 use Rattle.board_model.specs.Change.{Change, channel_set, connect_settled, item_handed, item_queued, name_found, names_known, reply_owed, waiting_ended, item_lost}
 use Rattle.board_model.specs.Dealing.{keeps_buffer}
-use Rattle.board_model.specs.Parts.{Came, named_so, part_of}
+use Rattle.board_model.specs.Parts.{Came, named_so}
 use Rattle.board_model.specs.State.{DomainState, Endpoint, Item, Outcome, endpoint_of, has_address_of, is_accepted, is_rejected, peer_at, waits_at}
 use Rattle.board_model.specs.TakenFrames as taken
 use Rattle.board_model.specs.TakenFrames.{Row, connect_rows, first_row, letter_rows, names_of, replies_to, row, row_from}
@@ -273,10 +273,6 @@ IsVerdict s name peer frame (verdict.Returned fate) d d' = IsReturned s peer (ro
 abbrev pub Deals : ℕ → Reading → Verdict → Desk → Desk → Type 0
 Deals peer said v d d' = (frame : List ℕ) (b : Book) (s : DomainState) (name : Option ℕ) → AreBytes frame → said ≡ reading frame → Shows s peer b d
     → IsVerdict s name peer frame v d d'
-
--- of a frame from a peer that has no open part
-abbrev pub DealsAlone : ℕ → List ℕ → Verdict → Desk → Desk → Type 0
-DealsAlone peer frame v d d' = (b : Book) (s : DomainState) (name : Option ℕ) → Shows s peer b d → part_of s peer ≡ None → IsVerdict s name peer frame v d d'
 
 abbrev pub Judges : Way → PlainLetter → Verdict → (Names → Desk) → (Names → Desk) → Type 0
 Judges way l v d d' = (b : Book) (s : DomainState) (came : Came) (names : Names) → Shows s way.peer b (d names)

@@ -1,12 +1,19 @@
 //! What becomes of a frame that is taken.
 
-ghost use Rattle.std.specs.Prelude.{◌≡◌, ◌<◌, None, length};
-ghost use Rattle.mc_base.specs.Letter.{piece_in, plain_letter};
+ghost use Rattle.std.specs.Prelude.{◌≡◌, ◌<◌, ◌≤◌, ◌+◌, ◌^◌, None, Some, List, ℕ, length};
+ghost use Rattle.mc_base.specs.Letter.{Piece as PlainPiece, piece_in, plain_letter};
+ghost use Rattle.mc_base.specs.Limits.{item_size};
+ghost use Rattle.mc_base.specs.NameMap.{Names};
+ghost use Rattle.mc_base.specs.Reading.{brings, reading};
 ghost use Rattle.name_service.specs.Said.{reading_of};
-ghost use Rattle.domain_parts.specs.Growing.{IsNoPiece, IsRead};
+ghost use Rattle.domain_parts.specs.declared.parts.OpenPart.{OpenPart as Opened};
+ghost use Rattle.domain_parts.specs.declared.replies.Reply.{Reply};
+ghost use Rattle.domain_parts.specs.Dealt.{DealsWith, GrowsTo, word_of};
+ghost use Rattle.domain_parts.specs.Growing.{IsNoPiece, IsPiece, IsRead};
 ghost use Rattle.domain_parts.specs.InRequests.{AreReceives};
-ghost use Rattle.domain_parts.specs.Verdicts.{DealsAlone, Brings, Deals, IsInBounds, Judges, beside, desk, fate_of};
 ghost use Rattle.domain_parts.specs.Items.{BringsMessage};
+ghost use Rattle.domain_parts.specs.Records.{part_open};
+ghost use Rattle.domain_parts.specs.Verdicts.{Brings, Deals, IsInBounds, Judges, beside, desk, fate_of};
 
 mod connects;
 mod items;
@@ -15,11 +22,11 @@ mod letters;
 use crate::announcements::hear;
 use crate::dealing::connects::answer_connect;
 pub use crate::dealing::connects::is_busy;
-pub use crate::dealing::items::judge_item;
+use crate::dealing::items::judge_item;
 use crate::dealing::letters::act;
 use crate::endpoints::Endpoints;
 use crate::fates::fault_fate;
-use crate::parts::piece_of;
+use crate::parts::{OpenPart, Piece, piece_of};
 use crate::replies::Replies;
 use crate::requests::oldest_receive;
 use mc_base::{Fate, Letter, Priority, RequestId};
@@ -58,6 +65,48 @@ impl Verdict {
     }
 }
 
+/// What a frame does with the open part of its peer, and what is to be done with it.
+#[derive(Clone, Copy)]
+pub enum Dealt {
+    /// The part ends, if one is open, and this is to be done with the frame.
+    Alone(Verdict),
+    /// The part ends, if one is open, and this piece begins one.
+    Begins(Piece),
+    /// The part goes on with so many bytes of the frame, and is this one from then on.
+    Grows {
+        part: OpenPart,
+        size: u32,
+    },
+    /// With so many bytes of the frame the part is whole: its item is last in the queue of the endpoint at a place.
+    WholeQueued {
+        part: OpenPart,
+        size: u32,
+        place: usize,
+        priority: Priority,
+    },
+    /// The same, and the pending receive of this id, which asks so, is complete with its item.
+    WholeHanded {
+        part: OpenPart,
+        size: u32,
+        id: RequestId,
+        ask: Ask,
+    },
+}
+
+impl Dealt {
+    /// The word for what becomes of the frame.
+    pub fn fate(&self) -> Fate
+        ensures { result ≡ word_of self.now }
+    {
+        match self {
+            Dealt::Alone(verdict) => verdict.fate(),
+            Dealt::Begins(_) | Dealt::Grows { .. } => Fate::Part,
+            Dealt::WholeQueued { .. } => Fate::Queued,
+            Dealt::WholeHanded { .. } => Fate::Handed,
+        }
+    }
+}
+
 /// Where a letter comes from, and where it goes.
 #[derive(Clone, Copy)]
 pub struct Way {
@@ -66,23 +115,78 @@ pub struct Way {
     pub destination: u32,
 }
 
-/// Deals with a frame from a peer that has no open part, which may have any bytes. No piece begins a part, so each is stray.
-pub fn deal_alone(
+/// Deals with a frame from a peer, which may have any bytes, by what it says and the open part of the peer. `known` are the names that
+/// are known of this peer, and `replies` those that are owed to it.
+pub fn deal_with(
     endpoints: &mut Endpoints,
     requests: &mut RequestSet,
     known: &mut KnownNames,
     replies: &mut Replies,
     peer: u8,
     frame: &[u8],
-) -> Verdict
-    requires { AreReceives requests.old }
+) -> Dealt
+    requires receives { AreReceives requests.old }
+    requires small { (o : Opened) → part_open endpoints.old peer ≡ Some o → o.size ≤ item_size }
     ensures { let old = desk endpoints.old requests.old known.old replies.old in
-        DealsAlone peer frame.now result old (desk endpoints.new requests.new known.new replies.new) }
+        DealsWith peer frame.now result old (desk endpoints.new requests.new known.new replies.new) }
 {
     let said = read_frame(frame);
     match piece_of(&said) {
-        Some(_) => Verdict::Returned(Fate::Stray),
-        None => deal(endpoints, requests, known, replies, peer, said),
+        Some(piece) => deal_piece(endpoints, requests, peer, piece),
+        None => Dealt::Alone(deal(endpoints, requests, known, replies, peer, said)),
+    }
+}
+
+/// Deals with a piece that a peer sent: it goes on with the peer's open part, begins one, or is stray.
+fn deal_piece(endpoints: &Endpoints, requests: &RequestSet, peer: u8, piece: Piece) -> Dealt
+    requires receives { AreReceives requests.now }
+    requires small { (o : Opened) → part_open endpoints.now peer ≡ Some o → o.size + piece.size < 2 ^ 32 }
+    ensures { (frame : List ℕ) (q : PlainPiece) → brings piece.source piece.destination q ≡ reading frame → IsPiece piece q
+        → (names : Names) (replies : List Reply) → let at = beside endpoints.now requests.now replies names in DealsWith peer frame result at at }
+{
+    if let Some(part) = endpoints.part_of(peer) {
+        if part.goes_on(&piece) {
+            return grow(endpoints, requests, part.grown(&piece), piece.size);
+        }
+    }
+    if piece.begins() {
+        Dealt::Begins(piece)
+    } else {
+        Dealt::Alone(Verdict::Returned(Fate::Stray))
+    }
+}
+
+/// Deals with a part that has come so far, of which the last frame brings so many bytes: with it the part is whole, or is open still.
+fn grow(endpoints: &Endpoints, requests: &RequestSet, part: OpenPart, size: u32) -> Dealt
+    requires receives { AreReceives requests.now }
+    ensures { GrowsTo endpoints.now requests.now part size result }
+{
+    if !part.is_whole() {
+        return Dealt::Grows { part, size };
+    }
+    let way = Way {
+        peer: part.slot.peer,
+        source: part.source,
+        destination: part.destination,
+    };
+    match judge_item(endpoints, requests, way, part.carrier(), part.size) {
+        Verdict::Queued {
+            place,
+            priority,
+            ..
+        } => Dealt::WholeQueued {
+            part,
+            size,
+            place,
+            priority,
+        },
+        Verdict::Handed { id, ask, .. } => Dealt::WholeHanded {
+            part,
+            size,
+            id,
+            ask,
+        },
+        Verdict::Returned(fate) => Dealt::Alone(Verdict::Returned(fate)),
     }
 }
 

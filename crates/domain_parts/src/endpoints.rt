@@ -3,7 +3,7 @@
 ghost use Rattle.std.specs.Prelude.{◌≡◌, ◌≤◌, ◌<◌, ◌+◌, [], false, IfOk, IfSome, IsNone, ◌^◌, ◌==◌, filter, find, length, map, sum_by, is_some, position, slice_get, Some, nat_le, option_map, vec_capacity};
 ghost use Rattle.std.specs.List.{AllByRecursion};
 ghost use Rattle.std.specs.Ordering.{nat_cmp};
-ghost use Rattle.mc_base.specs.Limits.{first_address, channel_limit};
+ghost use Rattle.mc_base.specs.Limits.{first_address, channel_limit, domain_limit};
 ghost use Rattle.board_model.specs.State.{address_at, place_at, place_of_address, queue_in};
 ghost use Rattle.board_model.specs.Choice.{best, oldest};
 ghost use Rattle.buffer_book.specs.Book.{Book};
@@ -11,15 +11,35 @@ ghost use Rattle.message_queue.specs.Queue.{waiting};
 ghost use Rattle.board_model.specs.Queues.{hears};
 ghost use Rattle.domain_parts.specs.Hearing.{hears_at, messages_waiting};
 ghost use Rattle.domain_parts.specs.Table.{holding};
-ghost use Rattle.domain_parts.specs.Records.{all_waiting, kept, opening_records, waiting_in, with_best_taken_at, with_channel_at, with_channel_given, with_last_lent, with_oldest_taken_at, with_record, with_waiting_at, without_lent_at, without_record_at};
+ghost use Rattle.domain_parts.specs.Records.{
+  all_waiting,
+  kept,
+  opening_records,
+  part_open,
+  waiting_in,
+  with_best_taken_at,
+  with_channel_at,
+  with_channel_given,
+  with_last_lent,
+  with_oldest_taken_at,
+  with_part_open,
+  with_record,
+  with_waiting_at,
+  without_lent_at,
+  without_part,
+  without_part_of,
+  without_record_at,
+};
 ghost use Rattle.domain_parts.specs.DomainView.{place_of_packet_id};
 ghost use Rattle.domain_parts.specs.InBook.{endpoints_in};
 ghost use Rattle.domain_parts.specs.InTable.{AreInOrder, IsKept, IsNumbered, IsSpare};
 ghost use Rattle.domain_parts.specs.Tied.{live_record};
 
+use crate::parts::OpenPart;
 use endpoint_table::EndpointTable;
 use mc_base::{
-    FIRST_ADDRESS, Local, MAX_CHANNELS, MAX_ENDPOINTS, NoMemory, PacketId, Priority, Side, Slot,
+    FIRST_ADDRESS, Local, MAX_CHANNELS, MAX_DOMAINS, MAX_ENDPOINTS, NoMemory, PacketId, Priority,
+    Side, Slot,
 };
 use message_queue::MessageQueue;
 use packet_channel::Channel;
@@ -49,14 +69,15 @@ impl Endpoint {
     }
 }
 
-/// The endpoints in the order in which they were created, queues for those to come, and the packets that were received and are
-/// lent, in the order in which they were lent.
+/// The endpoints in the order in which they were created, queues for those to come, the packets that were received and are lent, in
+/// the order in which they were lent, and the open parts of items, in the order in which they grew last.
 #[derive(Debug, Drop)]
 pub struct Endpoints {
     number: u8,
     records: Vec<Endpoint>,
     spare: Vec<MessageQueue>,
     lent: Vec<PacketId>,
+    parts: Vec<OpenPart>,
     given: u32,
     channels: u32,
     room: u32,
@@ -86,11 +107,15 @@ impl Endpoints {
         let Ok(lent) = Vec::with_capacity(alloc, room as usize) else {
             return Err(NoMemory);
         };
+        let Ok(parts) = Vec::with_capacity(alloc, MAX_DOMAINS as usize) else {
+            return Err(NoMemory);
+        };
         Ok(Endpoints {
             number,
             records,
             spare: empty_queues(alloc, room)?,
             lent,
+            parts,
             given: 0,
             channels: 0,
             room,
@@ -225,6 +250,29 @@ impl Endpoints {
         ensures { self.new ≡ without_lent_at self.old place }
     {
         self.lent.remove(place);
+    }
+
+    /// The open part of a peer.
+    pub fn part_of(&self, peer: u8) -> Option<OpenPart>
+        ensures { result ≡ part_open self.now peer }
+    {
+        self.parts.iter().copied().find(|p| p.slot.peer == peer)
+    }
+
+    /// Has a part be the open one of its peer, last.
+    pub fn keep_part(&mut self, part: OpenPart)
+        requires { length (without_part part.slot.peer self.old.parts) < domain_limit }
+        ensures { self.new ≡ with_part_open self.old part }
+    {
+        self.drop_part(part.slot.peer);
+        self.parts.push(part).unwrap();
+    }
+
+    /// Has no part of a peer be open.
+    pub fn drop_part(&mut self, peer: u8)
+        ensures { self.new ≡ without_part_of self.old peer }
+    {
+        self.parts.retain(|p| p.slot.peer != peer);
     }
 
     /// The name of the endpoint at a place.

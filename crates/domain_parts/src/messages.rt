@@ -15,6 +15,9 @@ use rpmsg_frame::write_header;
 /// Where the content lies in the buffer of a message.
 pub const CONTENT: u32 = (FRAME_HEADER_SIZE + LETTER_HEADER_SIZE) as u32;
 
+/// Where the bytes of a piece of an item lie in its buffer, behind how many come before them and how many the item has.
+pub const PIECE: u32 = CONTENT + 4;
+
 /// Writes the frame of a letter or of a part of one, and returns its length in bytes. The rest of `out` stays.
 pub fn write(out: &mut [u8], source: u32, destination: u32, letter: &Letter<'_>) -> u32
     requires lawful { FitsFrame (saying_of letter.now) }

@@ -4,7 +4,7 @@ ghost use Rattle.std.specs.Prelude.{◌≡◌, ◌+◌, ◌<◌, ◌^◌, ℕ, L
 ghost use Rattle.mc_base.specs.Letter.{Piece as PlainPiece};
 ghost use Rattle.name_service.specs.Said.{reading_of};
 ghost use Rattle.board_model.specs.Parts.{begins, goes_on, same_carrier};
-ghost use Rattle.domain_parts.specs.Pieces.{carrier_in, part_with};
+ghost use Rattle.domain_parts.specs.Pieces.{carrier_in, carrier_of, channel_in, kind_in, part_with, priority_in};
 ghost use Rattle.domain_parts.specs.Growing.{BringsPiece, IsPiece, IsRead, begun_by, grown_by, is_whole};
 
 use mc_base::{Letter, Priority, Slot};
@@ -17,8 +17,15 @@ pub enum Carrier {
     Packet(u32),
 }
 
-/// A part as a frame brings it: where it comes from and goes to, what carries it, how many bytes the whole has, how many of them
-/// come before these, and how many these are.
+/// Whether what comes in parts is a message or a packet.
+#[derive(Clone, Copy, Debug)]
+pub enum ItemKind {
+    Message,
+    Packet,
+}
+
+/// A piece as one frame brings it: where it comes from and goes to, what carries it, how many bytes the whole has, how many of them come
+/// before those of the piece, and how many bytes the piece has.
 #[derive(Clone, Copy, Debug)]
 pub struct Piece {
     pub source: u32,
@@ -30,13 +37,15 @@ pub struct Piece {
 }
 
 /// A message or packet of which not all frames came yet: the slot that names it in the book, where it comes from and goes to, what
-/// carries it, how many bytes the whole has, and how many came.
+/// carries it, how many bytes the whole has, and how many came. A message has no channel, and a packet no priority: each is 0 there.
 #[derive(Clone, Copy, Debug)]
 pub struct OpenPart {
     pub slot: Slot,
     pub source: u32,
     pub destination: u32,
-    pub carrier: Carrier,
+    pub kind: ItemKind,
+    pub priority: Priority,
+    pub channel: u32,
     pub total: u32,
     pub size: u32,
 }
@@ -95,10 +104,39 @@ impl Carrier {
             _ => false,
         }
     }
+
+    fn kind(&self) -> ItemKind
+        ensures { result ≡ kind_in self.now }
+    {
+        match self {
+            Carrier::Message(_) => ItemKind::Message,
+            Carrier::Packet(_) => ItemKind::Packet,
+        }
+    }
+
+    /// The message's priority, and 0 of a packet.
+    fn priority(&self) -> Priority
+        ensures { result ≡ priority_in self.now }
+    {
+        match *self {
+            Carrier::Message(priority) => priority,
+            Carrier::Packet(_) => Priority::new(0).unwrap(),
+        }
+    }
+
+    /// The packet's channel, and 0 of a message.
+    fn channel(&self) -> u32
+        ensures { result ≡ channel_in self.now }
+    {
+        match *self {
+            Carrier::Message(_) => 0,
+            Carrier::Packet(channel) => channel,
+        }
+    }
 }
 
 impl Piece {
-    /// Whether a part begins with it where it goes on with none.
+    /// Whether it begins a part where it continues none. None does yet.
     pub fn begins(&self) -> bool
         ensures { (q : PlainPiece) → IsPiece self.now q → result ≡ begins q }
     {
@@ -115,9 +153,21 @@ impl OpenPart {
             slot,
             source: piece.source,
             destination: piece.destination,
-            carrier: piece.carrier,
+            kind: piece.carrier.kind(),
+            priority: piece.carrier.priority(),
+            channel: piece.carrier.channel(),
             total: piece.total,
             size: piece.size,
+        }
+    }
+
+    /// What carries it.
+    pub fn carrier(&self) -> Carrier
+        ensures { carrier_in result ≡ carrier_of self.now }
+    {
+        match self.kind {
+            ItemKind::Message => Carrier::Message(self.priority),
+            ItemKind::Packet => Carrier::Packet(self.channel),
         }
     }
 
@@ -128,7 +178,7 @@ impl OpenPart {
     {
         self.source == piece.source
             && self.destination == piece.destination
-            && self.carrier.is_same(&piece.carrier)
+            && self.carrier().is_same(&piece.carrier)
             && self.total == piece.total
             && self.size == piece.offset
     }

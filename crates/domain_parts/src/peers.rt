@@ -2,13 +2,16 @@
 
 ghost use Rattle.std.specs.Prelude.{◌≡◌, ◌<◌, ◌==◌, IfSome, None, Some, length, position};
 ghost use Rattle.buffer_book.specs.Book.{IsQueued, NoneAside, slot_of};
+ghost use Rattle.domain_parts.specs.declared.parts.OpenPart.{OpenPart as Opened};
 ghost use Rattle.domain_parts.specs.AllMoved.{giving};
+ghost use Rattle.domain_parts.specs.EndedParts.{frames_open, without_open};
 ghost use Rattle.domain_parts.specs.GivingBack.{AreOut, AreOutAt, GivesBack};
 ghost use Rattle.domain_parts.specs.InBook.{frames_at};
 ghost use Rattle.domain_parts.specs.InPlaces.{IsLentAs};
 ghost use Rattle.domain_parts.specs.LaneSeen.{after_moves};
 ghost use Rattle.domain_parts.specs.Steps.{without_frames};
 
+use crate::parts::OpenPart;
 use crate::peer::Peer;
 use crate::peer_lane::PeerLane;
 use buffer_book::BufferBook;
@@ -45,6 +48,19 @@ fn give_frames<P: PeerLane>(book: &mut BufferBook, ends: &mut P, slot: Slot)
     for _ in 0..book.pieces(slot) {
         let buffer = book.withdraw_next(slot).unwrap();
         ends.give_back(buffer);
+    }
+}
+
+/// Ends a part that is open, if one is: takes it out of the book, and gives its buffers back at the ends towards its peer, oldest first.
+pub fn end_part<P: PeerLane>(book: &mut BufferBook, ends: &mut P, part: Option<OpenPart>)
+    requires queued { (o : Opened) → part ≡ Some o → IsQueued book.old o.slot }
+    requires out { AreOut (P.seen ends.old).out (frames_open book.old part) }
+    ensures book { book.new ≡ without_open book.old part }
+    ensures moved { P.Moved ends.old (giving (frames_open book.old part)) ends.new }
+    ensures seen { P.seen ends.new ≡ after_moves (giving (frames_open book.old part)) (P.seen ends.old) }
+{
+    if let Some(part) = part {
+        give_frames(book, ends, part.slot);
     }
 }
 

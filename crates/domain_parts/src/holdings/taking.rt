@@ -5,10 +5,12 @@ ghost use Rattle.domain_parts.specs.CallSteps.{Rests};
 ghost use Rattle.domain_parts.specs.Doing.{Takes};
 ghost use Rattle.domain_parts.specs.Parts.{peer_at};
 
-use crate::dealing::{Verdict, deal_alone};
+use crate::dealing::{Dealt, Verdict, deal_with};
 use crate::holdings::Holdings;
-use crate::messages::CONTENT;
+use crate::messages::{CONTENT, PIECE};
+use crate::parts::OpenPart;
 use crate::peer_lane::PeerLane;
+use crate::peers::end_part;
 use crate::requests::handed;
 use mc_journal::{Entry, Journal};
 
@@ -29,8 +31,8 @@ impl<P: PeerLane> Holdings<P> {
         }
     }
 
-    /// Takes the oldest frame that the peer at a place shows, notes it with its word, and queues its message, hands it to the
-    /// receive that waits, or gives the buffer back.
+    /// Takes the oldest frame that the peer at a place shows, and notes it with its word. It goes on with the peer's open part, or ends it;
+    /// its item is queued, handed to the receive that waits, or held in a part, or the buffer is given back.
     #[inline(never)] // Its locals are cleared for no peer that shows nothing.
     fn take_frame(&mut self, journal: &mut Journal, place: usize)
         requires within { place < length self.old.parts.peers }
@@ -43,9 +45,10 @@ impl<P: PeerLane> Holdings<P> {
     {
         let peer = &mut self.peers[place];
         let number = peer.number;
+        let open = self.endpoints.part_of(number);
         let (buffer, len) = peer.ends.take();
         let (frame, _) = buffer.bytes().split_at(len as usize);
-        let verdict = deal_alone(
+        let dealt = deal_with(
             &mut self.endpoints,
             &mut self.requests,
             &mut peer.known,
@@ -53,26 +56,61 @@ impl<P: PeerLane> Holdings<P> {
             number,
             frame,
         );
-        let fate = verdict.fate();
+        let fate = dealt.fate();
         journal.note(Entry::Take {
             peer: number,
             frame,
             fate,
         });
-        match verdict {
-            Verdict::Queued {
+        match dealt {
+            Dealt::Alone(verdict) => {
+                end_part(&mut self.book, &mut peer.ends, open);
+                self.endpoints.drop_part(number);
+                match verdict {
+                    Verdict::Queued {
+                        place: at,
+                        priority,
+                        size,
+                    } => {
+                        let slot = self.book.enqueue(number, buffer, CONTENT, size);
+                        self.endpoints.queue_last(at, slot, priority);
+                    }
+                    Verdict::Handed { id, ask, size } => {
+                        let slot = self.book.enqueue(number, buffer, CONTENT, size);
+                        self.requests.complete(id, handed(ask, slot));
+                    }
+                    Verdict::Returned(_) => peer.ends.give_back(buffer),
+                }
+            }
+            Dealt::Begins(piece) => {
+                end_part(&mut self.book, &mut peer.ends, open);
+                let slot = self.book.enqueue(number, buffer, PIECE, piece.size);
+                self.endpoints.keep_part(OpenPart::begun(slot, &piece));
+            }
+            Dealt::Grows { part, size } => {
+                self.book.join(part.slot, buffer, PIECE, size);
+                self.endpoints.keep_part(part);
+            }
+            Dealt::WholeQueued {
+                part,
+                size,
                 place: at,
                 priority,
-                size,
             } => {
-                let slot = self.book.enqueue(number, buffer, CONTENT, size);
-                self.endpoints.queue_last(at, slot, priority);
+                self.book.join(part.slot, buffer, PIECE, size);
+                self.endpoints.drop_part(number);
+                self.endpoints.queue_last(at, part.slot, priority);
             }
-            Verdict::Handed { id, ask, size } => {
-                let slot = self.book.enqueue(number, buffer, CONTENT, size);
-                self.requests.complete(id, handed(ask, slot));
+            Dealt::WholeHanded {
+                part,
+                size,
+                id,
+                ask,
+            } => {
+                self.book.join(part.slot, buffer, PIECE, size);
+                self.endpoints.drop_part(number);
+                self.requests.complete(id, handed(ask, part.slot));
             }
-            Verdict::Returned(_) => peer.ends.give_back(buffer),
         }
     }
 }

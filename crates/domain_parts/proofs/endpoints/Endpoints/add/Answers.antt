@@ -39,6 +39,7 @@ invariant_of-self c =
       records_room = search rules;
       spare_room = search rules;
       lent_room = search rules;
+      parts_room = search rules;
     }
 
 pub returns-clause-added : goal.returns-clause-added

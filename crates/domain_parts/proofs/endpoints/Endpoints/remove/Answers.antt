@@ -47,6 +47,7 @@ invariant_of-self c =
       records_room = search rules;
       spare_room = search rules;
       lent_room = search rules;
+      parts_room = search rules;
     }
 
 pub returns : goal.returns

@@ -28,6 +28,7 @@ invariant_of-self c =
       records_room = search rules;
       spare_room = i.spare_room;
       lent_room = i.lent_room;
+      parts_room = i.parts_room;
     }
 
 pub returns : goal.returns
