@@ -26,6 +26,10 @@ pub record CanReach (a : ℕ) : Type 0 where
   pub above : 1024 ≤ a
   pub below : a < 2 ^ 32
 
+neither : (a b : Bool) → (a || b) ≡ false → (a ≡ false) × (b ≡ false)
+neither true b none = absurd cc
+neither false b none = (refl, none)
+
 -- a call as a lawful scenario has it: the port of an endpoint that is made, and a scalar's value fit their bits
 abbrev pub FitsCall : DomainCall → Type 0
 FitsCall (create_at port) = port < 2 ^ 16
@@ -79,12 +83,12 @@ module _ (made : ℕ) (known : ℕ → ℕ → Type 0) (ns : List ℕ) (reach : 
 
     pub posts_read : (node : ℕ) (call : DomainCall) → FitsCall call → NoWord s node call → AllByRecursion Reads (success_posts s node call)
     posts_read node (send_from port to priority bytes) fits no_word =
-        (reads_post (post to.domain (unwrap_or (address_at s (local node port)) 0) (unwrap_or (address_of s to) 0) (msg priority bytes)) (here_reach (local node port) no_word.0) (address_reach to no_word.1.1.0) (fits, ltb-false item_size (length bytes) no_word.1.1.1.0), tt)
+        (reads_post (post to.domain (unwrap_or (address_at s (local node port)) 0) (unwrap_or (address_of s to) 0) (msg priority bytes)) (here_reach (local node port) no_word.0) (address_reach to no_word.1.1.0) (fits, ltb-false item_size (length bytes) (neither (nat_lt item_size (length bytes)) _ no_word.1.1.1.0).0), tt)
     posts_read node (connect_from port to kind) fits no_word =
         let less : s.channels_given < 65535 = leb-false channel_limit s.channels_given no_word.1.1.1.1.0 in
         (reads_post (post to.domain (unwrap_or (address_at s (local node port)) 0) (unwrap_or (address_of s to) 0) (connect (s.channels_given + 1) kind)) (here_reach (local node port) no_word.0) (address_reach to no_word.1.1.1.0) (omega arith, omega arith), tt)
     posts_read node (open_at port side kind) fits no_word = end_reads (local node port) (opening_letter side) (opening_spelled side)
-    posts_read node (packet_from port bytes) fits no_word = end_reads (local node port) (λ number. packet number bytes) (λ n is. (is, ltb-false item_size (length bytes) no_word.1.1.1.1.1.1.0))
+    posts_read node (packet_from port bytes) fits no_word = end_reads (local node port) (λ number. packet number bytes) (λ n is. (is, ltb-false item_size (length bytes) (neither (nat_lt item_size (length bytes)) _ no_word.1.1.1.1.1.1.0).0))
     posts_read node (scalar_from port bits value) fits no_word = end_reads (local node port) (λ number. scalar number bits value) (λ n is. (is, fits))
     posts_read node (close_at port side) fits no_word = end_reads (local node port) (closing_letter side) (closing_spelled side)
     posts_read node other fits no_word = tt

@@ -6,7 +6,7 @@ use Rattle.std.specs.Prelude.{◌==◌, nat_lt, nat_le, ◌||◌}
 use Rattle.std.proofs.lemmas.List.{take_all}
 use Rattle.std.proofs.lemmas.Bool.{le-ltb, le-leb, ne_eqb, eq-eqb, lt-ltb}
 use Rattle.byteorder.specs.Numbers.{little_number-reads_back}
-use Rattle.mc_base.specs.Limits.{single_size, total_size, piece_size, buffer_size, frame_header_size, letter_header_size, name_service_address}
+use Rattle.mc_base.specs.Limits.{single_size, item_size, piece_size, buffer_size, frame_header_size, letter_header_size, name_service_address}
 use Rattle.mc_base.specs.FaultRow.{FaultRow, row, first_fault, widened}
 use Rattle.mc_base.specs.Frame.{made, source_of, destination_of, payload_length_of, payload_of}
 use Rattle.mc_base.specs.Letter.{PlainLetter, msg, connect, accept, reject, recv_open, send_open, packet, scalar, send_close, recv_close, spelling, Fields, fields, fields_of, spelled, HasSpelling, Carrier, of_message, of_packet, IsCarrier, piece, carrier_fields, piece_spelling}
@@ -128,10 +128,10 @@ module _ (t o : ℕ) (bytes : List ℕ) (within : o + length bytes ≤ t) (some 
   numbers : (number_at 0 2 content ≡ t) × (number_at 2 2 content ≡ o)
   numbers = number_twice t o bytes (omega arith) (omega arith)
 
-  is_a_part : (nat_lt 4 (length content) && (nat_le (number_at 2 2 content + (length content - 4)) (number_at 0 2 content) && nat_le (number_at 0 2 content) total_size)) ≡ true
+  is_a_part : (nat_lt 4 (length content) && (nat_le (number_at 2 2 content + (length content - 4)) (number_at 0 2 content) && nat_le (number_at 0 2 content) item_size)) ≡ true
   is_a_part =
       let fits : o + (length content - 4) ≤ t = omega arith in
-      rw (numbers.0, numbers.1, lt-ltb 4 (length content) (omega arith), le-leb (o + (length content - 4)) t fits, le-leb t total_size most) refl
+      rw (numbers.0, numbers.1, lt-ltb 4 (length content) (omega arith), le-leb (o + (length content - 4)) t fits, le-leb t item_size most) refl
 
   part_sound : (k : Carrier) → IsCarrier k → first_fault (widened fault_of.Letter (field_faults (carrier_fields k content))) ≡ None
   part_sound (of_message priority) is =

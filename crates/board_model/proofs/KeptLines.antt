@@ -12,8 +12,8 @@ use Rattle.mc_base.specs.declared.fault.Fault.{Fault}
 use Rattle.board_model.specs.Messages.{Message, said_by, messages_in, ends_item, carries_message}
 use Rattle.std.proofs.lemmas.Bool.{and_parts}
 use Rattle.board_model.specs.State.{Part}
-use Rattle.board_model.specs.Parts.{begins, same_carrier, goes_on, Coming, coming_so, begun, with_piece, grown, alone, coming, readings}
-use Rattle.board_model.proofs.PartReadings.{is_part, is_open, AllSmooth}
+use Rattle.board_model.specs.Parts.{same_carrier, goes_on, Coming, coming_so, begins, begun, with_piece, grown, alone, coming, readings}
+use Rattle.board_model.proofs.PartReadings.{is_part, is_open, begins-first, AllSmooth}
 use Rattle.board_model.proofs.ListsCounts.{one_if, count-cons, count-append}
 
 -- ---- whether a frame says a message, by its bytes
@@ -123,8 +123,11 @@ module _ (a b : ℕ) where
     Ends c = said c.reading ≡ one_if (is_msg q.carrier && last q)
 
     alone_said : IsHeld (alone src dst q) → Ends (alone src dst q)
-    unfolding begins
-    alone_said held = let clash : false ≡ true = held refl in absurd cc
+    alone_said held = go (begins q) refl held
+      where
+        go : (c : Bool) → begins q ≡ c → IsHeld (cond c (grown false (begun src dst q) q) (coming_so (brings src dst q) None false)) → Ends (cond c (grown false (begun src dst q) q) (coming_so (brings src dst q) None false))
+        go true is k = grown_said false (begun src dst q) q refl (sym (begins-first q is)) refl
+        go false is k = let clash : false ≡ true = k refl in absurd cc
 
     piece_said : (o : Option Part) → IsHeld (coming o (brings src dst q)) → Ends (coming o (brings src dst q))
     piece_said None held = alone_said held

@@ -18,7 +18,7 @@ use Rattle.board_model.specs.Step.{RunState, Allowed, next_line, after}
 use Rattle.board_model.specs.Run.{start, Leads, after_all, left_by, IsDomainRun}
 use Rattle.board_model.specs.Traffic.{put_to, taken_from}
 use Rattle.board_model.specs.Board.{DomainJournal}
-use Rattle.board_model.specs.Deeds.{Deed, looks_back, puts_owed, looks_ahead, takes, calls, along}
+use Rattle.board_model.specs.Deeds.{Deed, looks_back, puts_owed, looks_ahead, takes, along}
 use Rattle.board_model.specs.Turn.{takes_named}
 use Rattle.board_model.specs.JournalDeeds.{names_from, named_deeds, call_deeds, entry_deeds, deeds_along, deeds_of, opened, left_in}
 use Rattle.board_model.specs.Unnamed.{unnamed}

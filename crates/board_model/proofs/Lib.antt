@@ -81,7 +81,6 @@ pub mod OrderSound
 pub mod OrderStands
 pub mod OrderTakings
 pub mod PartLetters
-pub mod WholeFrames
 pub mod PartReadings
 pub mod PartRuns
 pub mod PartLaw
@@ -174,4 +173,3 @@ pub mod ChannelPair
 pub mod ListsOne
 pub mod ChannelBoard
 pub mod ChannelLaw
-pub mod ClosedStates

@@ -4,7 +4,7 @@ use Rattle.std.proofs.lemmas.Simd.{map-map}
 use Rattle.std.proofs.Common.{◌≡◌, ℕ, zero, suc, ◌+◌, ◌-◌, ◌*◌, ◌/◌, ◌≤◌, ◌<◌, ◌^◌, arith, inl, inr, false, cond, List, [], ◌∷◌, ◌++◌, length, map, None, refl, sym, ap, ◌∙◌, subst, take, drop}
 use Rattle.std.specs.Prelude.{nat_le}
 use Rattle.std.specs.List.{AllByRecursion, flat_map}
-use Rattle.std.proofs.lemmas.Bool.{cases_Bool, cond_both, le-leb, leb-false}
+use Rattle.std.proofs.lemmas.Bool.{cases_Bool, cond_both, leb-true, leb-false}
 use Rattle.std.proofs.lemmas.List.{append-nil}
 use Rattle.mc_base.specs.Limits.{single_size, item_size, piece_size}
 use Rattle.mc_base.specs.Frame.{made}
@@ -15,7 +15,7 @@ use Rattle.mc_base.specs.declared.fault.Fault.{Fault}
 use Rattle.board_model.specs.Parts.{readings}
 use Rattle.board_model.proofs.HonestReads.{letter_back, part_back}
 use Rattle.board_model.proofs.HonestFrames.{MadePart, part_faulty, part_brings, part_made}
-use Rattle.board_model.proofs.PartReadings.{is_part, Closed, plain-closed, plain-said}
+use Rattle.board_model.proofs.PartReadings.{Fits, is_part, Closed, plain-closed, plain-said, parts_said}
 
 abbrev pub letter_frames : ℕ → ℕ → PlainLetter → List (List ℕ)
 letter_frames a b l = map (made a b) (spellings l)
@@ -41,19 +41,40 @@ one_said a b l read =
 record Needs (n : ℕ) : Type 0 where
   more : ℕ
   is : parts_count n ≡ suc more
+  fits : Fits 484 more n
+
+all_fit : (more n : ℕ) → 484 * more < n → n ≤ 484 * more + 484 → Fits 484 more n
+all_fit zero n above below = (omega arith, omega arith)
+all_fit (suc more) n above below = (omega arith, all_fit more (n - 484) (omega arith) (omega arith))
 
 needs : (n : ℕ) → 0 < n → Needs n
-needs n some = record { more = (n - 1) / 484; is = omega arith }
+needs n some = record { more = (n - 1) / 484; is = omega arith; fits = all_fit ((n - 1) / 484) n (omega arith) (omega arith) }
 
 module _ (a b : ℕ) (from : a < 2 ^ 32) (above : 1024 ≤ b) (below : b < 2 ^ 32) where
-  item_said : (k : Carrier) → (bytes : List ℕ) → length bytes ≤ 488 → HasSpelling (carried k bytes) → FramesSaid a b (carried k bytes) (map (made a b) (item_spellings k bytes))
-  item_said k bytes most has =
-      subst (λ c. FramesSaid a b (carried k bytes) (map (made a b) (cond c (spelling (carried k bytes) ∷ []) (map piece_spelling (parts_of k bytes))))) (sym (le-leb (length bytes) single_size most))
-      (one_said a b (carried k bytes) (letter_back a b (carried k bytes) has from above below))
+  parts_are : (k : Carrier) → IsCarrier k → (bytes : List ℕ) → 0 < length bytes → length bytes ≤ 8192 → FramesSaid a b (carried k bytes) (map (made a b) (map piece_spelling (parts_of k bytes)))
+  parts_are k is bytes some most =
+      let n : ℕ = length bytes in
+      let count = needs n some in
+      let frame_of : Piece → List ℕ = λ q. made a b (piece_spelling q) in
+      let said = parts_said 484 (omega arith) a b k n frame_of (λ o part some_here short within. part_back n o part within some_here most a b k is short from above below) count.more None [] bytes refl (omega arith) count.fits in
+      subst (FramesSaid a b (carried k bytes)) (sym (map-map (made a b) piece_spelling (parts_of k bytes)))
+      (subst (λ c. FramesSaid a b (carried k bytes) (map frame_of (parts_from 484 k n c 0 bytes))) (sym count.is)
+      (record { closed = record { smooth = said.smooth; ends = said.ends }; parts = said.parts; are = said.are }))
+
+  item_said : (k : Carrier) → IsCarrier k → (bytes : List ℕ) → length bytes ≤ 8192 → (length bytes ≤ 488 → HasSpelling (carried k bytes)) → FramesSaid a b (carried k bytes) (map (made a b) (item_spellings k bytes))
+  item_said k is bytes most has = elim (cases_Bool (nat_le (length bytes) single_size)) [
+    | inl short ↦
+        subst (λ c. FramesSaid a b (carried k bytes) (map (made a b) (cond c (spelling (carried k bytes) ∷ []) (map piece_spelling (parts_of k bytes))))) (sym short)
+        (one_said a b (carried k bytes) (letter_back a b (carried k bytes) (has (leb-true (length bytes) single_size short)) from above below))
+    | inr long ↦
+        let more : 488 < length bytes = leb-false (length bytes) single_size long in
+        subst (λ c. FramesSaid a b (carried k bytes) (map (made a b) (cond c (spelling (carried k bytes) ∷ []) (map piece_spelling (parts_of k bytes))))) (sym long)
+        (parts_are k is bytes (omega arith) most)
+  ]
 
   pub letter_said : (l : PlainLetter) → CanGo l → FramesSaid a b l (letter_frames a b l)
-  letter_said (msg priority bytes) has = item_said (of_message priority) bytes has.1 has
-  letter_said (packet n bytes) has = item_said (of_packet n) bytes has.1 has
+  letter_said (msg priority bytes) has = item_said (of_message priority) has.0 bytes has.1 (λ short. (has.0, short))
+  letter_said (packet n bytes) has = item_said (of_packet n) has.0 bytes has.1 (λ short. (has.0, short))
   letter_said (connect n kind) has = one_said a b (connect n kind) (letter_back a b (connect n kind) has from above below)
   letter_said (accept n) has = one_said a b (accept n) (letter_back a b (accept n) has from above below)
   letter_said (reject n why) has = one_said a b (reject n why) (letter_back a b (reject n why) has from above below)

@@ -18,7 +18,7 @@ use Rattle.board_model.specs.Renamed.{renamed, renamed_end, renamed_item, rename
 use Rattle.board_model.specs.Choice.{best, oldest}
 use Rattle.board_model.specs.DomainCall.{DomainCall, create_at, delete_at, lookup_of, send_from, receive_at, request_at, available_at, connect_from, open_at, packet_from, lend_at, packet_request_at, release_of, scalar_from, scalar_at, close_at, test_of, wait_for, cancel_of, raw_to, turn_alone}
 use Rattle.board_model.specs.Journal.{tells, completes}
-use Rattle.board_model.specs.Answer.{first_complete, local, here, known_address, address_of, has_channel, named, end_call, holds_at_end, channel_at, post, puts_of, over_channel, over_end, opening_letter, closing_letter, request_named, is_complete, packet_named, is_of_other_size, success_posts, success_puts, lacks_buffers, holds, words_of, refusal, lent_whole, value_of, given, result_by, result_of, success, answer_by, answer, unless_refused, puts, is_complete_at, stands_at, lacks_request, lacks_complete, lacks_lane, place_said, content_size}
+use Rattle.board_model.specs.Answer.{first_complete, local, here, known_address, address_of, has_channel, named, end_call, holds_at_end, channel_at, post, puts_of, over_channel, over_end, opening_letter, closing_letter, request_named, is_complete, packet_named, is_of_other_size, success_posts, success_puts, lacks_buffers, holds, words_of, refusal, lent_whole, value_of, given, result_by, result_of, success, answer_by, answer, unless_refused, puts, is_complete_at, stands_at, lacks_request, lacks_complete, lacks_lane, place_said, passes_lane, content_size}
 use Rattle.board_model.specs.Change.{Change, endpoint_gone, best_gone, oldest_gone, channel_set, request_added, waiting_ended, request_gone, end_announced, buffers_used, channel_given}
 use Rattle.board_model.specs.ChannelEnds.{connecting_end, opened_end}
 use Rattle.board_model.specs.CallChanges.{at_live, at_channel, at_end, new_sender, closing, lending, lent_by, lent_by_test, best_item, success_changes, call_changes, tested}
@@ -163,7 +163,14 @@ module _ (names : ℕ → ℕ → ℕ) where
   lacks_renamed s [] = refl
   lacks_renamed s (p ∷ ps) = refl
 
+  passes_renamed : (s : DomainState) (ps : List (ℕ × List ℕ)) → passes_lane (renamed names s) ps ≡ passes_lane s ps
+  passes_renamed s [] = refl
+  passes_renamed s (p ∷ ps) = refl
+
   module _ (s : DomainState) (node : ℕ) (call : DomainCall) where
+    size_refused : (nat_lt item_size (content_size call) || passes_lane (renamed names s) (success_puts (renamed names s) node call)) ≡ (nat_lt item_size (content_size call) || passes_lane s (success_puts s node call))
+    size_refused = ap (λ b. nat_lt item_size (content_size call) || b) (ap (passes_lane (renamed names s)) (success_puts_renamed s node call) ∙ passes_renamed s (success_puts s node call))
+
     at_end_renamed : (word : Refusal) → holds_at_end (end_call (length (queue_at (renamed names s) (here node call))) call) (channel_at (renamed names s) (here node call)) word ≡ holds_at_end (end_call (length (queue_at s (here node call))) call) (channel_at s (here node call)) word
     at_end_renamed word = ap₂ (λ n c. holds_at_end (end_call n call) c word) (queue_length s (here node call)) (channel-renamed s (here node call))
 
@@ -181,6 +188,8 @@ module _ (names : ℕ → ℕ → ℕ) where
     holds_renamed ChanClosed = at_end_renamed ChanClosed
     holds_renamed AlreadyOpen = at_end_renamed AlreadyOpen
     holds_renamed NotOpen = at_end_renamed NotOpen
+    holds_renamed MsgSize = size_refused
+    holds_renamed PktSize = size_refused
     holds_renamed SclSize = ap (is_of_other_size call) (queue-renamed s (here node call)) ∙ size_renamed call (queue_at s (here node call))
     holds_renamed BufInvalid = ap (λ o. not (is_some o)) (packet_named_renamed s call) ∙ ap not (is_some-map (renamed_packet names) (packet_named s call))
     holds_renamed NoBuffer = ap (lacks_buffers (renamed names s)) (success_puts_renamed s node call) ∙ lacks_renamed s (success_puts s node call)

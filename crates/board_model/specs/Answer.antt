@@ -19,7 +19,7 @@ use Rattle.mc_base.specs.declared.refusal.Refusal.{Refusal}
 use Rattle.mc_base.specs.declared.refusal.Refusal.TheVariants.{NodeInvalid, ExistsAlready, EndpLimit, AddressSpent, EndpInvalid, PeerInvalid, OnChannel, ChanConnected, EndpBusy, ChanLimit, NotConnected, ChanDirection, ChanType, ChanClosed, AlreadyOpen, NotOpen, MsgSize, PktSize, SclSize, BufInvalid, NoBuffer, Empty, RequestLimit, RequestInvalid, Pending, TooLate, Timeout, LinkInvalid, RawSound}
 use Rattle.board_model.specs.DomainCall.{DomainCall, create_at, delete_at, lookup_of, send_from, receive_at, request_at, available_at, connect_from, open_at, packet_from, lend_at, packet_request_at, release_of, scalar_from, scalar_at, close_at, test_of, wait_for, cancel_of, raw_to, turn_alone}
 use Rattle.board_model.specs.Journal.{PlainResult, found_at, was_accepted, was_rejected, brought, ended_by, PlainAnswer, refuses, agrees, tells, connects, gives, completes}
-use Rattle.board_model.specs.State.{DomainState, Item, ChannelEnd, Endpoint, Peer, Asked, message_at, Outcome, has_address, is_accepted, is_rejected, has_item, has_ended, Request, LentPacket, request_at_place, packet_at_place, place_at, endpoint_at, live_at, address_at, channel_in, queue_at, one_waits, place_of_peer, peer_of, free_to}
+use Rattle.board_model.specs.State.{DomainState, Item, ChannelEnd, Endpoint, Peer, Asked, message_at, Outcome, has_address, is_accepted, is_rejected, has_item, has_ended, Request, LentPacket, request_at_place, packet_at_place, place_at, endpoint_at, live_at, address_at, channel_in, queue_at, one_waits, place_of_peer, peer_of, free_to, size_to}
 use Rattle.board_model.specs.Choice.{best, oldest}
 use Rattle.board_model.specs.ChannelEnds.{EndCall, opens, sends, receives, closes, end_refuses}
 
@@ -214,7 +214,12 @@ abbrev pub success_puts : DomainState → ℕ → DomainCall → List (ℕ × Li
 success_puts s node (raw_to to bytes) = (to, bytes) ∷ []
 success_puts s node other = flat_map puts_of (success_posts s node other)
 
--- whether the lane to a peer has fewer buffers free than these frames need
+-- whether the lane to a peer has fewer buffers than these frames need. One frame never passes a lane: each has a buffer
+abbrev pub passes_lane : DomainState → List (ℕ × List ℕ) → Bool
+passes_lane s [] = false
+passes_lane s (p ∷ ps) = nat_lt (size_to s p.0) (length (p ∷ ps))
+
+-- whether it has fewer buffers free than they need
 abbrev pub lacks_buffers : DomainState → List (ℕ × List ℕ) → Bool
 lacks_buffers s [] = false
 lacks_buffers s (p ∷ ps) = nat_lt (free_to s p.0) (length (p ∷ ps))
@@ -237,8 +242,8 @@ holds s node call ChanType = holds_at_end (end_call (length (queue_at s (here no
 holds s node call ChanClosed = holds_at_end (end_call (length (queue_at s (here node call))) call) (channel_at s (here node call)) ChanClosed
 holds s node call AlreadyOpen = holds_at_end (end_call (length (queue_at s (here node call))) call) (channel_at s (here node call)) AlreadyOpen
 holds s node call NotOpen = holds_at_end (end_call (length (queue_at s (here node call))) call) (channel_at s (here node call)) NotOpen
-holds s node call MsgSize = nat_lt item_size (content_size call)
-holds s node call PktSize = nat_lt item_size (content_size call)
+holds s node call MsgSize = nat_lt item_size (content_size call) || passes_lane s (success_puts s node call)
+holds s node call PktSize = nat_lt item_size (content_size call) || passes_lane s (success_puts s node call)
 holds s node call SclSize = is_of_other_size call (queue_at s (here node call))
 holds s node call BufInvalid = not (is_some (packet_named s call))
 holds s node call NoBuffer = lacks_buffers s (success_puts s node call)

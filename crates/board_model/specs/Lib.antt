@@ -66,4 +66,3 @@ pub mod JournalForm
 pub mod JournalParts
 pub mod JournalLaws
 pub mod Fragments
-pub mod ClosedStates

@@ -5,7 +5,7 @@ use Rattle.std.specs.List.{AllByRecursion, flat_map, list_any}
 use Rattle.std.specs.Str.{bytes_eq}
 use Rattle.byteorder.specs.Endian.{little_number}
 use Rattle.mc_base.specs.Letter.{msg, bytes_of_bits}
-use Rattle.mc_base.specs.Reading.{Reading, says, reading}
+use Rattle.mc_base.specs.Reading.{Reading, says}
 use Rattle.mc_base.specs.declared.refusal.Refusal.TheVariants.{Timeout}
 use Rattle.mc_base.specs.declared.fate.Fate.{Fate}
 use Rattle.mc_base.specs.declared.fate.Fate.TheVariants.{Queued, Handed}

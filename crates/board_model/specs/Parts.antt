@@ -39,9 +39,9 @@ grown joins p q =
     if length (p.content ++ q.content) == p.total then coming_so (says p.source p.destination (carried p.carrier (p.content ++ q.content))) None joins
     else coming_so (brings p.source p.destination q) (Some (with_piece p q)) joins
 
--- whether a piece begins a part: none does yet
+-- a piece begins a part where no bytes come before its own
 unfoldable pub begins : Piece → Bool
-begins q = false
+begins q = q.offset == 0
 
 -- a piece that goes on with nothing begins a part, or is stray
 abbrev pub alone : ℕ → ℕ → Piece → Coming

@@ -253,9 +253,13 @@ peer_of s n = option_and_then (λ i. slice_get s.peers i) (place_of_peer s n)
 abbrev pub peer_at : DomainState → ℕ → Option Peer
 peer_at s n = find (is_numbered n) s.peers
 
--- the free buffers of the lane to a peer
+-- the free buffers of the lane to a peer, and all its buffers. The lane to a peer has one at least: a ring has a power of two from 2 on,
+-- and a domain's own pool has 1 or more. To a domain that is no peer there is no lane, and it counts as one of no buffers
 abbrev pub free_to : DomainState → ℕ → ℕ
 free_to s n = unwrap_or (option_map (λ p. p.free) (peer_of s n)) 0
+
+abbrev pub size_to : DomainState → ℕ → ℕ
+size_to s n = unwrap_or (option_map (λ p. p.size) (peer_of s n)) 0
 
 -- the frame of an announcement by a domain: from the endpoint's address to the name service
 abbrev pub announcing : ℕ → Announcement → List ℕ

@@ -1,8 +1,9 @@
 -- The plain entries of a journal's lines. They need no state of the domain, only its peers and its script.
 -- Source: docs/FORMATS.md, "Journal text". The last put lines before a call that succeeds in putting frames are the call's, as many
 -- as it puts; a turn has the other lines that follow it. So the lines are read from the last to the first.
-use Rattle.std.specs.Prelude.{ℕ, zero, suc, ◌-◌, nat_lt, List, [], ◌∷◌, ◌++◌, ◌==◌, if◌then◌else◌, map, sum_by, Option, Some, None, slice_get}
+use Rattle.std.specs.Prelude.{ℕ, zero, suc, ◌-◌, nat_lt, List, [], ◌∷◌, ◌++◌, ◌==◌, if◌then◌else◌, length, map, sum_by, Option, Some, None, slice_get}
 use Rattle.std.specs.List.{flat_map}
+use Rattle.mc_base.specs.Pieces.{frames_of_size}
 use Rattle.board_model.specs.declared.scenario.Call.{Call}
 use Rattle.board_model.specs.declared.scenario.Call.TheVariants.{MsgSend, Connect, OpenSend, OpenRecv, PktSend, SclSend, CloseSend, CloseRecv, Raw}
 use Rattle.board_model.specs.declared.scenario.CallLine.{CallLine}
@@ -13,13 +14,13 @@ use Rattle.board_model.specs.Journal.{PlainAnswer, refuses, Taken, taken, Visit,
 
 -- ---- the puts of a call
 
--- how many frames a call puts where it succeeds
+-- how many frames a call puts where it succeeds: a message or packet those that its bytes need
 abbrev pub frames_put : Call → ℕ
-frames_put (MsgSend port to priority bytes) = 1
+frames_put (MsgSend port to priority bytes) = frames_of_size (length bytes)
 frames_put (Connect port to kind) = 1
 frames_put (OpenSend port kind) = 1
 frames_put (OpenRecv port kind) = 1
-frames_put (PktSend port bytes) = 1
+frames_put (PktSend port bytes) = frames_of_size (length bytes)
 frames_put (SclSend port bits value) = 1
 frames_put (CloseSend port) = 1
 frames_put (CloseRecv port) = 1

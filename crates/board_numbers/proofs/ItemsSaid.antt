@@ -1,15 +1,15 @@
 -- What frames say of the items of a channel, by their bytes: where no frame is stray, each that carries an item, or its last part, says one.
-use Rattle.std.proofs.Common.{◌≡◌, ℕ, ◌+◌, Bool, true, false, cond, List, [], ◌∷◌, ◌++◌, length, flat_map, length-append, eqb-true, Option, None, Some, refl, ap, ap₂, ◌∙◌, arith}
+use Rattle.std.proofs.Common.{◌≡◌, ℕ, ◌+◌, Bool, true, false, cond, List, [], ◌∷◌, ◌++◌, length, flat_map, length-append, eqb-true, Option, None, Some, refl, sym, ap, ap₂, ◌∙◌, arith}
 use Rattle.std.specs.Prelude.{count_by, ◌==◌, ◌&&◌}
 use Rattle.std.proofs.lemmas.Bool.{and_parts}
 use Rattle.mc_base.specs.Letter.{Carrier, of_message, of_packet, carried, Piece, PlainLetter, packet, scalar}
 use Rattle.mc_base.specs.Reading.{Reading, is_faulty, announces, says, brings, reading}
 use Rattle.board_model.specs.Channels.{data_said, is_numbered}
-use Rattle.board_model.specs.Parts.{same_carrier, goes_on, coming_so, begins, with_piece, grown, alone, coming, readings}
+use Rattle.board_model.specs.Parts.{same_carrier, goes_on, coming_so, begins, begun, with_piece, grown, alone, coming, readings}
 use Rattle.board_model.specs.State.{Part}
 use Rattle.board_model.proofs.KeptLines.{IsHeld}
 use Rattle.board_model.proofs.ListsCounts.{one_if, count-cons}
-use Rattle.board_model.proofs.PartReadings.{AllSmooth}
+use Rattle.board_model.proofs.PartReadings.{AllSmooth, begins-first}
 use Rattle.board_numbers.specs.Items.{item_letter, item_carrier, is_last, item_said, carries_item}
 
 module _ (n : ℕ) where
@@ -53,8 +53,12 @@ module _ (n : ℕ) where
       go false e = ap (λ b. one_if (is_numbered n (cond b (item_carrier q.carrier) None))) e
 
   alone_says : (source destination : ℕ) (q : Piece) → IsHeld (alone source destination q) → Says (alone source destination q).reading (cond (is_last q) (item_carrier q.carrier) None)
-  unfolding begins
-  alone_says source destination q held = let clash : false ≡ true = held refl in absurd cc
+  alone_says source destination q held = go (begins q) refl held
+    where
+      go : (b : Bool) → begins q ≡ b → IsHeld (cond b (grown false (begun source destination q) q) (coming_so (brings source destination q) None false))
+          → Says (cond b (grown false (begun source destination q) q) (coming_so (brings source destination q) None false)).reading (cond (is_last q) (item_carrier q.carrier) None)
+      go true is k = grown_says false (begun source destination q) q refl (sym (begins-first q is)) refl
+      go false is k = let clash : false ≡ true = k refl in absurd cc
 
   piece_says : (o : Option Part) (source destination : ℕ) (q : Piece) → IsHeld (coming o (brings source destination q)) → Says (coming o (brings source destination q)).reading (item_said (brings source destination q))
   piece_says None source destination q held = alone_says source destination q held

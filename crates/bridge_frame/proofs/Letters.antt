@@ -10,7 +10,7 @@ use Rattle.mc_base.specs.FaultRow.{first_fault, row}
 use Rattle.mc_base.proofs.FaultRows.{first_fault-passed}
 use Rattle.mc_base.specs.declared.fault.LetterFault.TheVariants.{PayloadShort, Magic, Version}
 use Rattle.byteorder.specs.Endian.{little_bytes, little_number}
-use Rattle.mc_base.specs.Limits.{total_size}
+use Rattle.mc_base.specs.Limits.{item_size}
 use Rattle.mc_base.specs.Letter.{PlainLetter, msg, HasSpelling, spelling, Carrier, of_message, of_packet, IsCarrier, carrier_fields, Piece, HasPieceSpelling, fields_of_piece, piece_spelling, Saying, whole, in_part, saying_fields, IsSaying, saying_of, bytes_of_bits, spelled, fields, version_1}
 use Rattle.mc_base.specs.Reading.{Reading, says, brings, says_so, said_in}
 use Rattle.mc_base.proofs.Readings.{fields_in-spelled, saying_is_small, said_in-fields, number_twice}
@@ -51,11 +51,11 @@ whole_reads_back : (l : PlainLetter) → HasSpelling l → first_fault (letter_f
 whole_reads_back l lawful = search rules
 
 -- the content of a part is one
-pub cut_passes : (t o : ℕ) (bytes : List ℕ) → o + length bytes ≤ t → 0 < length bytes → t ≤ total_size → a_part (fields 2 1 0 0 (little_bytes 2 t ++ (little_bytes 2 o ++ bytes))) ≡ true
+pub cut_passes : (t o : ℕ) (bytes : List ℕ) → o + length bytes ≤ t → 0 < length bytes → t ≤ item_size → a_part (fields 2 1 0 0 (little_bytes 2 t ++ (little_bytes 2 o ++ bytes))) ≡ true
 cut_passes t o bytes within some most =
     let numbers = number_twice t o bytes (omega arith) (omega arith) in
     let content : List ℕ = little_bytes 2 t ++ (little_bytes 2 o ++ bytes) in
-    rw (numbers.0, numbers.1, lt-ltb 4 (length content) (omega arith), le-leb (o + (length content - 4)) t (omega arith), le-leb t total_size most) refl
+    rw (numbers.0, numbers.1, lt-ltb 4 (length content) (omega arith), le-leb (o + (length content - 4)) t (omega arith), le-leb t item_size most) refl
 
 part_sound : (k : Carrier) (content : List ℕ) → IsCarrier k → a_part (fields 2 1 0 0 content) ≡ true → first_fault (field_faults (carrier_fields k content)) ≡ None
 part_sound (of_message priority) content is passes =

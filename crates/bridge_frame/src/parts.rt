@@ -10,7 +10,7 @@ ghost use Rattle.bridge_frame.specs.Reading.{IsReading};
 use crate::PART_HEADER_SIZE;
 use crate::content::{no_argument, numbered};
 use byteorder::{ByteOrder, LittleEndian};
-use mc_base::{Letter, LetterFault, Priority, TOTAL_SIZE};
+use mc_base::{ITEM_SIZE, Letter, LetterFault, Priority};
 
 /// The bytes of a part, and where they lie in the whole.
 struct Cut<'a> {
@@ -71,7 +71,7 @@ fn read_cut(content: &[u8]) -> Result<Cut<'_>, LetterFault>
     let total = LittleEndian::read_u16(content);
     let offset = LittleEndian::read_u16(&content[2..]);
     let (_, bytes) = content.split_at(PART_HEADER_SIZE);
-    if usize::from(offset) + bytes.len() > usize::from(total) || usize::from(total) > TOTAL_SIZE {
+    if usize::from(offset) + bytes.len() > usize::from(total) || usize::from(total) > ITEM_SIZE {
         return Err(LetterFault::Size);
     }
     Ok(Cut {

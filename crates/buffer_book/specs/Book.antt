@@ -269,6 +269,10 @@ abbrev pub aside_frames : Option Aside → ℕ
 aside_frames None = 0
 aside_frames (Some a) = count_of a.item
 
+abbrev pub size_in : Option Shelf → ℕ
+size_in None = 0
+size_in (Some s) = length s.places
+
 abbrev pub queued_in : Option Shelf → ℕ
 queued_in None = 0
 queued_in (Some s) = sum_by queued_frames s.items
@@ -276,6 +280,10 @@ queued_in (Some s) = sum_by queued_frames s.items
 abbrev pub lent_in : Option Shelf → ℕ
 lent_in None = 0
 lent_in (Some s) = sum_by lent_frames s.items + sum_by aside_frames s.aside
+
+-- how many buffers a peer has, and how many of them are in queues or lent; none of a peer that the book does not know
+abbrev pub size_of : Book → ℕ → ℕ
+size_of b peer = size_in (shelf_of b peer)
 
 abbrev pub queued_from : Book → ℕ → ℕ
 queued_from b peer = queued_in (shelf_of b peer)

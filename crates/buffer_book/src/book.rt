@@ -1,7 +1,7 @@
 //! The book itself.
 ghost use Rattle.std.specs.Prelude.{◌≡◌, ◌≤◌, ◌<◌, ◌+◌, ◌↔◌, ℕ, IfOk, IfSome, OnOk, OnErr, IsErr, IsNone, IsSome, None, Some, map, option_map, option_and_then};
 ghost use Rattle.mc_base.specs.Limits.{buffer_size};
-ghost use Rattle.buffer_book.specs.Book.{AllDiffer, opening_book, kept_in_buffer, content, count_of, is_single, frame_at, IsAway, IsQueued, queued_at, lent_as, slot_of, with_queued, with_joined, with_lent, with_taken, queued_from, lent_from, EachHoldsOnce};
+ghost use Rattle.buffer_book.specs.Book.{AllDiffer, opening_book, kept_in_buffer, content, count_of, is_single, frame_at, IsAway, IsQueued, queued_at, lent_as, slot_of, with_queued, with_joined, with_lent, with_taken, size_of, queued_from, lent_from, EachHoldsOnce};
 
 use crate::held::HeldBuffer;
 use crate::places::Places;
@@ -198,6 +198,13 @@ impl BufferBook {
         ensures content { IfOk result (λ bytes. Some bytes.now ≡ option_map content (option_and_then (frame_at self.now id.peer 0) (lent_as self.now id))) }
     {
         self.lent_piece(id, 0)
+    }
+
+    /// Returns how many buffers a peer has. There are none of a peer that the book does not know.
+    pub fn size_of(&self, peer: u8) -> usize
+        ensures { result ≡ size_of self.now peer }
+    {
+        shelves::size(&self.shelves, peer)
     }
 
     /// Counts the frames of a peer that are in queues, and those that are lent. There are none of a peer that the book does

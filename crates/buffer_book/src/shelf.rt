@@ -55,6 +55,14 @@ impl PeerShelf {
         self.peer == peer
     }
 
+    /// How many buffers the peer has.
+    pub fn size(&self) -> usize
+        ensures { result ≡ length self.now.places }
+    {
+        let cells: &[Cell] = &self.cells;
+        cells.len()
+    }
+
     /// Queues an item of one frame, which gives it its name. A lent item of that name stands aside.
     pub fn put(&mut self, number: u16, held: HeldBuffer)
         requires away { kept_on_place self.old.places number ≡ None }

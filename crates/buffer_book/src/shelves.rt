@@ -2,7 +2,7 @@
 ghost use Rattle.std.specs.Prelude.{◌≡◌, ◌<◌, ◌==◌, ◌↔◌, IfOk, IfSome, IsSome, IsNone, Some, None, length, map, position, option_copied, option_map, option_and_then};
 ghost use Rattle.std.specs.List.{AllByRecursion};
 ghost use Rattle.mc_base.specs.declared.request.Slot.{Slot};
-ghost use Rattle.buffer_book.specs.Book.{empty_shelf, enqueued, joined, lent_on, taken, is_single, count_of, item_at, queued_at, queued_from, lent_from, HoldsOnce};
+ghost use Rattle.buffer_book.specs.Book.{empty_shelf, enqueued, joined, lent_on, taken, is_single, count_of, item_at, queued_at, size_of, queued_from, lent_from, HoldsOnce};
 ghost use Rattle.buffer_book.specs.Shelves.{shelved, place_in, item_in, frame_in, with_shelf_in, PeersDiffer};
 
 use crate::held::HeldBuffer;
@@ -49,6 +49,16 @@ pub fn frame(shelves: &[PeerShelf], slot: Slot, lent: Option<u64>, n: u32) -> Op
 {
     let at = place_of(shelves, slot.peer)?;
     shelves[at].frame(slot.buffer, lent, n)
+}
+
+/// Returns how many buffers a peer has.
+pub fn size(shelves: &[PeerShelf], peer: u8) -> usize
+    ensures { result ≡ size_of (shelved shelves.now) peer }
+{
+    match place_of(shelves, peer) {
+        Some(at) => shelves[at].size(),
+        None => 0,
+    }
 }
 
 /// Counts the frames of a peer that are in queues, and those that are lent.

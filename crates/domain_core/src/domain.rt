@@ -1,6 +1,7 @@
 //! A domain, and its calls.
 
 ghost use Rattle.std.specs.Prelude.{◌≡◌, ◌≤◌, ◌+◌, IfOk, IfSome, IsNone, OnErr, ◌↔◌, None, Contains, length, drop, map, is_some, sum_by};
+ghost use Rattle.mc_base.specs.Limits.{item_size};
 ghost use Rattle.board_model.specs.DomainCall.{create_at, delete_at, lookup_of, turn_alone, send_from, receive_at, request_at, available_at, test_of, cancel_of};
 ghost use Rattle.board_model.specs.Journal.{agrees};
 ghost use Rattle.board_model.specs.State.{lent_from, queued_from, place_of_peer};
@@ -127,16 +128,17 @@ impl<S: SendEnd, R: RecvEnd> Domain<S, R> {
         self.inside.take_turn(journal)
     }
 
-    /// Sends a message of 0 to 488 bytes to the named endpoint, in one buffer of the lane to its domain. Its receiver takes
-    /// messages of a better priority first; 0 is the best.
+    /// Sends a message of 0 to 8,192 bytes to the named endpoint: up to 488 bytes in one frame, and more in parts of 484, which are
+    /// all put or none. Each takes a buffer of the lane to its domain. Its receiver takes messages of a better priority first; 0 is the
+    /// best.
     ///
     /// # Errors
     ///
     /// - `EndpInvalid`: the endpoint `from` does not exist.
     /// - `OnChannel`: it has a channel.
     /// - `PeerInvalid`: the endpoint `to` neither exists in this domain nor is known from a linked one.
-    /// - `MsgSize`: the message has more than 488 bytes.
-    /// - `NoBuffer`: no buffer of the lane is free after the turn.
+    /// - `MsgSize`: the message has more than 8,192 bytes, or needs more frames than the lane has buffers.
+    /// - `NoBuffer`: fewer buffers of the lane are free after the turn than the message needs frames.
     pub fn msg_send(
         &mut self,
         journal: &mut Journal,
@@ -229,8 +231,8 @@ impl<S: SendEnd, R: RecvEnd> Domain<S, R> {
     /// Ends a complete request and returns its result: the address of a lookup, whether a connect was accepted, a message, a
     /// packet, or the refusal with which a receive ended.
     ///
-    /// The first bytes of a message, as many as the request asked for, are copied to `out`, which has at least 488 bytes; the rest
-    /// of `out` stays as it is. The message's buffer is given back. A packet is lent until [`release`](Domain::release).
+    /// The first bytes of a message, as many as the request asked for, are copied to `out`, which has at least 8,192 bytes; the rest
+    /// of `out` stays as it is. The message's buffers are given back. A packet is lent until [`release`](Domain::release).
     ///
     /// # Errors
     ///
@@ -246,7 +248,7 @@ impl<S: SendEnd, R: RecvEnd> Domain<S, R> {
     ) -> Result<Done, Refusal>
         requires entry_room { call_entries ≤ journal.old.entry_room }
         requires byte_room { call_bytes ≤ journal.old.byte_room }
-        requires out { 488 ≤ length out.old }
+        requires out { item_size ≤ length out.old }
         ensures call { Calls (EndsMoved S.Moved R.Moved) 0 (test_of (place_of_id self.old.ids id)) self.old self.new journal.old.lines journal.new.lines (tested result out.new (packet_lent_as self.new)) None }
         ensures message { IfOk result (λ done. GivesTo done out.old out.new) }
         ensures lent { IfOk result (LendsBy self.old self.new) }

@@ -12,7 +12,7 @@ use Rattle.mc_base.specs.declared.name.Local.{Local}
 use Rattle.mc_base.specs.declared.refusal.Refusal.{Refusal}
 use Rattle.mc_base.specs.declared.refusal.Refusal.TheVariants.{AlreadyOpen, ChanClosed, ChanConnected, ChanDirection, ChanLimit, ChanType, EndpBusy, EndpInvalid, MsgSize, NoBuffer, NotConnected, NotOpen, OnChannel, PeerInvalid, RequestLimit}
 use Rattle.board_model.proofs.MessageLists.{get-position}
-use Rattle.board_model.specs.Answer.{address_of, channel_at, end_holds, has_channel, lacks_buffers, local, over_channel, over_end, post, puts_of, refusal, success_puts}
+use Rattle.board_model.specs.Answer.{address_of, channel_at, end_holds, has_channel, lacks_buffers, passes_lane, local, over_channel, over_end, post, puts_of, refusal, success_puts}
 use Rattle.board_model.specs.ChannelEnds.{EndCall, closes, end_refusal, end_refuses, opened_end, opens}
 use Rattle.board_model.specs.DomainCall.{close_at, connect_from, open_at, send_from}
 use Rattle.board_model.specs.State as state
@@ -184,7 +184,7 @@ module _ (s : DomainState) (node port : ℕ) (to : EndName) (kind : Kind) where
       ∙ ap (λ b. connect_by (Some i) false false (Some a) false b connect_lacks) full
       ∙ ap (λ b. connect_by (Some i) false false (Some a) false false b) lacks
 
--- a send that is refused by no word but that for buffers
+-- a send that is refused by no word but those for its size and for buffers
 module _ (s : DomainState) (node port : ℕ) (to : EndName) (priority : ℕ) (bytes : List ℕ) where
   abbrev send_lacks : Bool
   send_lacks = lacks_buffers s (success_puts s node (send_from port to priority bytes))
@@ -197,12 +197,15 @@ module _ (s : DomainState) (node port : ℕ) (to : EndName) (priority : ℕ) (by
       (cond long (Some MsgSize)
       (cond send_lacks (Some NoBuffer) None))))
 
-  pub send-words : (i a : ℕ) → place_at s (local node port) ≡ Some i → has_channel (endpoint_at s (local node port)) ≡ false → address_of s to ≡ Some a → nat_lt item_size (length bytes) ≡ false → refusal s node (send_from port to priority bytes) ≡ cond send_lacks (Some NoBuffer) None
-  send-words i a there has address short =
-      ap (λ o. send_by o (has_channel (endpoint_at s (local node port))) (address_of s to) (nat_lt item_size (length bytes))) there
-      ∙ ap (λ b. send_by (Some i) b (address_of s to) (nat_lt item_size (length bytes))) has
-      ∙ ap (λ o. send_by (Some i) false o (nat_lt item_size (length bytes))) address
-      ∙ ap (λ b. send_by (Some i) false (Some a) b) short
+  abbrev pub send_long : Bool
+  send_long = nat_lt item_size (length bytes) || passes_lane s (success_puts s node (send_from port to priority bytes))
+
+  pub send-words : (i a : ℕ) (long : Bool) → place_at s (local node port) ≡ Some i → has_channel (endpoint_at s (local node port)) ≡ false → address_of s to ≡ Some a → send_long ≡ long → refusal s node (send_from port to priority bytes) ≡ cond long (Some MsgSize) (cond send_lacks (Some NoBuffer) None)
+  send-words i a long there has address size =
+      ap (λ o. send_by o (has_channel (endpoint_at s (local node port))) (address_of s to) send_long) there
+      ∙ ap (λ b. send_by (Some i) b (address_of s to) send_long) has
+      ∙ ap (λ o. send_by (Some i) false o send_long) address
+      ∙ ap (λ b. send_by (Some i) false (Some a) b) size
 
   -- what it puts
   pub send-puts : (source destination : ℕ) → Some source ≡ address_at s (local node port) → Some destination ≡ address_of s to → success_puts s node (send_from port to priority bytes) ≡ puts_of (post to.domain source destination (msg priority bytes))

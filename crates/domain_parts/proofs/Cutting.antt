@@ -4,7 +4,7 @@ use Rattle.std.proofs.lemmas.List.{drop_min, length-map, take_min}
 use Rattle.std.proofs.lemmas.Bool.{le-leb, lt-leb}
 use Rattle.std.specs.Int.{div_ceil}
 use Rattle.mc_base.specs.Letter.{Carrier, FitsFrame, IsCarrier, Piece, carried, in_part, of_message, of_packet, piece, piece_spelling, saying_text, spelling, whole}
-use Rattle.mc_base.specs.Limits.{piece_size, single_size, total_size}
+use Rattle.mc_base.specs.Limits.{piece_size, single_size, item_size}
 use Rattle.mc_base.specs.Pieces.{frames_needed, item_spellings, parts_count, parts_from, parts_of, spellings}
 use Rattle.domain_parts.specs.Outgoing.{NeedsParts}
 
@@ -65,7 +65,7 @@ pub single-fits : (k : Carrier) (bytes : List ℕ) → IsCarrier k → length by
 single-fits (of_message priority) bytes is short = (is, short)
 single-fits (of_packet channel) bytes is short = (is, short)
 
-pub part-fits : (k : Carrier) (total offset : ℕ) (bytes : List ℕ) → IsCarrier k → 0 < length bytes → length bytes ≤ piece_size → offset + length bytes ≤ total → total ≤ total_size → FitsFrame (in_part (piece k total offset bytes))
+pub part-fits : (k : Carrier) (total offset : ℕ) (bytes : List ℕ) → IsCarrier k → 0 < length bytes → length bytes ≤ piece_size → offset + length bytes ≤ total → total ≤ item_size → FitsFrame (in_part (piece k total offset bytes))
 part-fits k total offset bytes is some fits within most = (record { carries = is; some = some; within = within; most = most }, fits)
 
 pub single-short : (k : Carrier) (bytes : List ℕ) → length bytes ≤ single_size → length (saying_text (whole (carried k bytes))) ≤ 496

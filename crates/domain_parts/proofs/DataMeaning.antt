@@ -1,6 +1,6 @@
 -- What the steps of the calls mean that send and receive items on channels.
 use Rattle.std.proofs.Common.{◌≡◌, ℕ, Bool, true, false, cond, List, [], ◌∷◌, ◌<◌, ◌≤◌, drop, take, length, map, Option, Some, None, refl, sym, ap, ◌∙◌, arith}
-use Rattle.std.specs.Prelude.{Err, Ok, Result, nat_lt, not, option_and_then, option_map, option_to_list, position, slice_get, ◌==◌}
+use Rattle.std.specs.Prelude.{Err, Ok, Result, nat_lt, not, option_and_then, option_map, option_to_list, position, slice_get, ◌==◌, ◌||◌}
 use Rattle.std.specs.List.{flat_map}
 use Rattle.std.proofs.lemmas.Bool.{ne_eqb}
 use Rattle.std.proofs.lemmas.List.{append-nil, take_all}
@@ -16,7 +16,7 @@ use Rattle.mc_base.specs.declared.refusal.Refusal.{Refusal}
 use Rattle.mc_base.specs.declared.refusal.Refusal.TheVariants.{Empty, NoBuffer, PktSize, SclSize}
 use Rattle.mc_base.specs.declared.refusal.SclSize as size
 use Rattle.mc_base.specs.declared.request.Slot.{Slot}
-use Rattle.board_model.specs.Answer.{Post, channel_at, is_of_other_size, lacks_buffers, over_end, post, puts_of, refusal, success_posts, success_puts, value_of}
+use Rattle.board_model.specs.Answer.{Post, channel_at, is_of_other_size, lacks_buffers, over_end, passes_lane, post, puts_of, refusal, success_posts, success_puts, value_of}
 use Rattle.board_model.specs.CallChanges.{at_end, at_live, success_changes, success_returned}
 use Rattle.board_model.specs.ChannelEnds.{end_refusal, receives, sends}
 use Rattle.board_model.specs.Change.{buffers_used, changed, changed_all, oldest_gone, with_queue}
@@ -66,17 +66,20 @@ module _ (p : Parts) (sound : Sound p) (at : Local) (i : ℕ) (there : place_at 
 
 -- the words of the send of a packet: those of the end, and then its own
 module _ (s : DomainState) (at : Local) (i : ℕ) (c : ChannelEnd) (there : place_at s at ≡ Some i) (has : channel_at s at ≡ Some c) (bytes : List ℕ) where
+  abbrev pub packet_long : Bool
+  packet_long = nat_lt item_size (length bytes) || passes_lane s (success_puts s at.node (packet_from at.port bytes))
+
   abbrev packet_rest : Option Refusal
-  packet_rest = cond (nat_lt item_size (length bytes)) (Some PktSize) (cond (lacks_buffers s (success_puts s at.node (packet_from at.port bytes))) (Some NoBuffer) None)
+  packet_rest = cond packet_long (Some PktSize) (cond (lacks_buffers s (success_puts s at.node (packet_from at.port bytes))) (Some NoBuffer) None)
 
   pub packet-refused : (word : Refusal) → Err word ≡ may (sends Packet) c → refusal s at.node (packet_from at.port bytes) ≡ Some word
   packet-refused word is = data-words s at.node at.port i c there has (sends Packet) packet_rest ∙ ap (λ (o : Option Refusal). or_then o packet_rest) (answered-word _ word is)
 
-  pub packet-lacks : Ok tt ≡ may (sends Packet) c → nat_lt item_size (length bytes) ≡ false → refusal s at.node (packet_from at.port bytes) ≡ cond (lacks_buffers s (success_puts s at.node (packet_from at.port bytes))) (Some NoBuffer) None
-  packet-lacks may_do short =
+  pub packet-words : (long : Bool) → Ok tt ≡ may (sends Packet) c → packet_long ≡ long → refusal s at.node (packet_from at.port bytes) ≡ cond long (Some PktSize) (cond (lacks_buffers s (success_puts s at.node (packet_from at.port bytes))) (Some NoBuffer) None)
+  packet-words long may_do size =
       data-words s at.node at.port i c there has (sends Packet) packet_rest
       ∙ ap (λ (o : Option Refusal). or_then o packet_rest) (answered-none _ may_do)
-      ∙ ap (λ (long : Bool). cond long (Some PktSize) (cond (lacks_buffers s (success_puts s at.node (packet_from at.port bytes))) (Some NoBuffer) None)) short
+      ∙ ap (λ (b : Bool). cond b (Some PktSize) (cond (lacks_buffers s (success_puts s at.node (packet_from at.port bytes))) (Some NoBuffer) None)) size
 
 -- ---- the oldest item at an endpoint
 

@@ -23,7 +23,7 @@ use Rattle.board_model.specs.Parts.{Came}
 use Rattle.board_model.specs.State as state
 use Rattle.board_model.specs.State.{DomainState, Item, endpoint_of, has_address_of, peer_at, place_of_address}
 use Rattle.board_model.specs.TakenFrames as taken
-use Rattle.board_model.specs.TakenFrames.{Row, accepting, connect_rows, first_row, is_busy, letter_rows, rejecting, replies_to, row, row_from, row_of}
+use Rattle.board_model.specs.TakenFrames.{Row, accepting, connect_rows, first_row, is_busy, letter_rows, rejecting, replies_to, row, row_from}
 use Rattle.board_model.proofs.MessageLists.{get-position, some-position}
 use Rattle.buffer_book.specs.Book.{Book}
 use Rattle.packet_channel.specs.End.{end_of}
@@ -268,17 +268,17 @@ module _ (s : DomainState) (name : Option ℕ) (peer src dst : ℕ) (frame : Lis
   row_so : letter_row s came peer src dst l ≡ row_from s peer name frame
   row_so = sym (row-no_piece s peer name frame (says src dst l) is tt)
 
-  pub judged-verdict : (v : Verdict) (d d' : Desk) → IsJudged s came peer src dst l v d d' → IsVerdict s name peer frame v d d'
+  pub judged-verdict : (v : Verdict) (d d' : Desk) → IsJudged s came peer src dst l v d d' → IsVerdict s name peer frame 24 v d d'
   judged-verdict (verdict.Queued place priority size) d d' j =
       let c = item-read came peer frame bytes src dst l is j.0 in
       let item = taken.item_of peer came src l in
-      let same : item ≡ framed_item came.names peer frame size = c.is ∙ ap (framed_item came.names peer frame) (sym j.1) in
-      (subst (λ (x : Row). IsQueued s x (framed_item came.names peer frame size) place) row_so (subst (λ (i : Item). IsQueued s (letter_row s came peer src dst l) i place) same j.3), subst (Fits frame) (sym j.1) c.fits, c.says ∙ sym j.2, j.4)
+      let same : item ≡ framed_item came.names peer frame 24 size = c.is ∙ ap (framed_item came.names peer frame 24) (sym j.1) in
+      (subst (λ (x : Row). IsQueued s x (framed_item came.names peer frame 24 size) place) row_so (subst (λ (i : Item). IsQueued s (letter_row s came peer src dst l) i place) same j.3), subst (Fits frame 24) (sym j.1) c.fits, c.says ∙ sym j.2, j.4)
   judged-verdict (verdict.Handed id max size) d d' j =
       let c = item-read came peer frame bytes src dst l is j.0 in
       let item = taken.item_of peer came src l in
-      let same : item ≡ framed_item came.names peer frame size = c.is ∙ ap (framed_item came.names peer frame) (sym j.1) in
-      (subst (λ (x : Row). IsHanded s d.requests x (framed_item came.names peer frame size) id max) row_so (subst (λ (i : Item). IsHanded s d.requests (letter_row s came peer src dst l) i id max) same j.2), subst (Fits frame) (sym j.1) c.fits, j.3)
+      let same : item ≡ framed_item came.names peer frame 24 size = c.is ∙ ap (framed_item came.names peer frame 24) (sym j.1) in
+      (subst (λ (x : Row). IsHanded s d.requests x (framed_item came.names peer frame 24 size) id max) row_so (subst (λ (i : Item). IsHanded s d.requests (letter_row s came peer src dst l) i id max) same j.2), subst (Fits frame 24) (sym j.1) c.fits, j.3)
   judged-verdict (verdict.Returned f) d d' j = subst (λ (x : Row). IsReturned s peer x f d d') row_so j
 
 -- a letter that is no part of one

@@ -5,6 +5,7 @@ pub mod Copying
 pub mod Giving
 pub mod Fitting
 pub mod Slots
+pub mod LaneSizes
 pub mod Leaving
 pub mod Lending
 pub mod LendingMeaning

@@ -1,7 +1,7 @@
 -- Open parts that begin, grow, or are whole: what the state of a domain is then.
-use Rattle.std.proofs.Common.{◌≡◌, ℕ, ◌+◌, ◌-◌, ◌≤◌, Bool, true, false, cond, List, [], ◌∷◌, ◌++◌, length, map, drop, take, Option, Some, None, refl, sym, ap, ap₂, ◌∙◌, subst, arith, ne_eqb, eq-eqb, append-nil, append_assoc}
+use Rattle.std.proofs.Common.{◌≡◌, ℕ, ◌+◌, ◌-◌, ◌≤◌, Bool, true, false, cond, List, [], ◌∷◌, ◌++◌, map, drop, take, Option, Some, None, refl, sym, ap, ap₂, ◌∙◌, subst, ne_eqb, eq-eqb, append-nil, append_assoc}
 use Rattle.std.specs.Prelude.{filter, find, not, option_map, position, slice_get, ◌==◌}
-use Rattle.std.proofs.lemmas.List.{drop-take, length-take, map-append, take-take}
+use Rattle.std.proofs.lemmas.List.{map-append}
 use Rattle.std.proofs.lemmas.List.Elements.{filter-append}
 use Rattle.mc_base.specs.Frame.{source_of}
 use Rattle.mc_base.specs.Limits.{item_size}
@@ -44,7 +44,7 @@ use Rattle.domain_parts.proofs.OpenParts.{parts-stay}
 use Rattle.domain_parts.proofs.PartLists.{gone-found, held-without, none-gone, none-here, other-found, read-found}
 use Rattle.domain_parts.proofs.PartPlaces.{HasPiece, begun-handed, begun-here, begun-lent, begun-open, begun-rest, begun-waiting, begun_book, grown, grown-apart, grown-handed, grown-item, grown-lent, grown-others, grown-own, grown-stand, grown-waiting, grown-was, grown_book}
 use Rattle.domain_parts.proofs.PeersAt.{changed-place}
-use Rattle.domain_parts.proofs.Queuing.{handed-item}
+use Rattle.domain_parts.proofs.Queuing.{content-in_buffer, handed-item}
 use Rattle.domain_parts.proofs.Receives.{complete-at, complete_now, map-changed}
 use Rattle.domain_parts.proofs.Stepping.{quiet-peers, set-is-map}
 use Rattle.domain_parts.proofs.Waits.{endpoints-more, endpoints-stay}
@@ -190,13 +190,6 @@ module _ (p : Parts) (sound : Sound p) (i : ℕ) (x : Peer LaneSeen) (there : sl
 
 -- ---- the bytes of a piece lie behind 28 bytes of headers
 
-piece-content : (bytes : List ℕ) (len size : ℕ) → 28 + size ≤ length (take len bytes) → take size (drop 28 (take len bytes)) ≡ take size (drop 28 bytes)
-piece-content bytes len size fits =
-    let bound : 28 + size ≤ len = omega (arith, fits, length-take len bytes) in
-    let split : len ≡ 28 + (len - 28) = omega (arith, bound) in
-    let le : size ≤ len - 28 = omega (arith, bound) in
-    ap (λ (n : ℕ). take size (drop 28 (take n bytes))) split ∙ ap (λ (xs : List ℕ). take size xs) (drop-take 28 (len - 28) bytes) ∙ take-take size (len - 28) (drop 28 bytes) le
-
 module _ (p : Parts) (sound : Sound p) (i : ℕ) (x : Peer LaneSeen) (there : slice_get p.peers i ≡ Some x) (buffer : Stored) (len : ℕ) (apart : AreApart x.ends.size_from (x.ends.out ++ buffer.number ∷ [])) where
   abbrev the_frame : List ℕ
   the_frame = take len buffer.bytes
@@ -226,7 +219,7 @@ module _ (p : Parts) (sound : Sound p) (i : ℕ) (x : Peer LaneSeen) (there : sl
     read-first =
         ap (λ (s : Slot). part_by (whole_at b2 s) o) slot
         ∙ ap (λ (w : Option Whole). part_by w o) (begun-here p sound i x there buffer len apart o slot closed has source priority channel within most)
-        ∙ ap (λ (xs : List ℕ). record { peer = o.slot.peer; part = part_with o xs; names = buffer.number ∷ [] }) (append-nil (take o.size (drop 28 buffer.bytes)) ∙ sym (piece-content buffer.bytes len o.size has.inside) ∙ sym is)
+        ∙ ap (λ (xs : List ℕ). record { peer = o.slot.peer; part = part_with o xs; names = buffer.number ∷ [] }) (append-nil (take o.size (drop 28 buffer.bytes)) ∙ sym (content-in_buffer buffer.bytes len 28 o.size has.inside) ∙ sym is)
 
     pub part_begun-is : state_of (done (part_begun o buffer len) p) ≡ changed (state_of p) (frame_taken x.number (Some (part_with o bytes)) (buffer.number ∷ []))
     part_begun-is =
@@ -272,7 +265,7 @@ module _ (p : Parts) (sound : Sound p) (i : ℕ) (x : Peer LaneSeen) (there : sl
     content-is =
         let item = grown-item p sound i x there buffer len apart o found size has within in
         join-content _ _ p.book (grown-stand p sound i x there buffer len apart o found size has within) o.slot item.0 item.1 item.2 (kept_in_buffer buffer 28 size) (grown-apart p sound i x there buffer len apart o found size has within)
-        ∙ ap (λ (xs : List ℕ). content_in (whole_at p.book o.slot) ++ xs) (sym (piece-content buffer.bytes len size has.inside) ∙ sym is)
+        ∙ ap (λ (xs : List ℕ). content_in (whole_at p.book o.slot) ++ xs) (sym (content-in_buffer buffer.bytes len 28 size has.inside) ∙ sym is)
 
     names-are : frames_at b3 o.slot ≡ whole_names
     names-are =

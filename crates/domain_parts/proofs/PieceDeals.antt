@@ -1,6 +1,8 @@
 -- What is done with a frame that brings a piece: it goes on with the open part of its peer, begins one, or is stray.
 use Rattle.std.proofs.Common.{◌≡◌, ℕ, ◌+◌, ◌≤◌, Bool, true, false, cond, List, [], ◌∷◌, ◌++◌, length, take, drop, Option, Some, None, refl, sym, ap, ap₂, ◌∙◌, subst, arith, length-append}
-use Rattle.mc_base.specs.Letter.{Piece as PlainPiece, PlainLetter, carried}
+use Rattle.std.specs.Prelude.{◌==◌}
+use Rattle.mc_base.specs.Frame.{source_of}
+use Rattle.mc_base.specs.Letter.{Carrier, Piece as PlainPiece, PlainLetter, carried}
 use Rattle.mc_base.specs.Limits.{item_size}
 use Rattle.mc_base.specs.Reading.{brings, reading, says}
 use Rattle.mc_base.specs.declared.fate.Fate.{Fate}
@@ -14,7 +16,7 @@ use Rattle.board_model.specs.Returns.{given_at_once, given_by_frame}
 use Rattle.board_model.specs.State as state
 use Rattle.board_model.specs.State.{DomainState, Part, held_of}
 use Rattle.board_model.specs.TakenFrames as taken
-use Rattle.board_model.specs.TakenFrames.{Row, row, row_from}
+use Rattle.board_model.specs.TakenFrames.{Row, row_from}
 use Rattle.buffer_book.specs.Book.{Book}
 use Rattle.request_set.specs.Requests.{Requests}
 use Rattle.domain_parts.specs.declared.dealing.Dealt.{Dealt}
@@ -26,15 +28,15 @@ use Rattle.domain_parts.specs.declared.parts.Piece.{Piece}
 use Rattle.domain_parts.specs.declared.replies.Reply.{Reply}
 use Rattle.domain_parts.specs.Dealt.{GrowsBy, IsDealt, item_whole, piece_bytes, whole_as}
 use Rattle.domain_parts.specs.Growing.{IsPiece, begun_by, grown_by, is_whole}
-use Rattle.domain_parts.specs.InBook.{content_in, whole_at}
-use Rattle.domain_parts.specs.Pieces.{carrier_channel, carrier_of, carrier_priority, part_with}
+use Rattle.domain_parts.specs.InBook.{channel_of, content_in, priority_of, whole_at}
+use Rattle.domain_parts.specs.Pieces.{carrier_channel, carrier_in, carrier_of, carrier_priority, part_with}
 use Rattle.domain_parts.specs.Records.{Records, part_open}
-use Rattle.domain_parts.specs.Verdicts.{Desk, IsHanded, IsJudged, IsQueued, IsReturned, Shows, desk, item_with, letter_row, nothing}
+use Rattle.domain_parts.specs.Verdicts.{Desk, Fits, IsHanded, IsJudged, IsQueued, IsReturned, IsVerdict, Shows, desk, fate_of, framed_item, item_with, letter_row, nothing}
 use Rattle.mc_base.specs.NameMap.{Names}
 use Rattle.domain_parts.proofs.Items.{carried-item}
 use Rattle.domain_parts.proofs.PartLists.{found-peer}
 use Rattle.domain_parts.proofs.PieceReadings.{CarriesPiece, piece-read}
-use Rattle.domain_parts.proofs.Pieces.{begins-held, coming-read, joins-held, joins-whole, joins-within, row-held, row-stray, row-whole, stray}
+use Rattle.domain_parts.proofs.Pieces.{begins-held, begins-whole, coming-read, joins-held, joins-whole, joins-within, row-held, row-stray, row-whole, stray}
 
 -- what goes back at once is all that brought it, in whatever part it came
 once-back : (word : Fate) (held : List ℕ) (n : ℕ) → keeps_buffer word ≡ false → given_at_once word (held ++ n ∷ []) ≡ held ++ given_at_once word (n ∷ [])
@@ -61,7 +63,7 @@ module _ (b : Book) (s : DomainState) (name : Option ℕ) (peer : ℕ) (frame : 
 
   -- ---- it goes on with none
 
-  pub stray-dealt : (d : Desk) → coming_from s peer frame ≡ alone p.source p.destination q → begins q ≡ false → IsDealt s name peer b frame d d (dealt.Alone (verdict.Returned fate.Stray))
+  pub stray-dealt : (d : Desk) → coming_from s peer frame ≡ alone p.source p.destination q → begins q ≡ false → IsDealt s name peer b frame d d (dealt.Alone (verdict.Returned fate.Stray) 28)
   stray-dealt d so none =
       let here = so ∙ stray p.source p.destination q none in
       record {
@@ -90,6 +92,64 @@ module _ (b : Book) (s : DomainState) (name : Option ℕ) (peer : ℕ) (frame : 
         gives = gives-so _ fate.Part (here any);
         same = refl;
       }
+
+  -- ---- it is a whole item itself
+
+  module _ (so : coming_from s peer frame ≡ alone p.source p.destination q) (first : begins q ≡ true) (whole : (p.size == p.total) ≡ true) where
+    abbrev own : PlainLetter
+    own = carried (carrier_in p.carrier) q.content
+
+    abbrev pub once : Came
+    once = came_by (coming_so (says p.source p.destination own) None false) held name
+
+    own-here : coming_from s peer frame ≡ coming_so (says p.source p.destination own) None false
+    own-here = so ∙ begins-whole p q is first (record { peer = 0; buffer = 0 }) whole
+
+    own-row : row_from s peer name frame ≡ letter_row s once peer p.source p.destination own
+    own-row = row-whole s peer name frame p.source p.destination own false own-here
+
+    own-item : (size : ℕ) → size ≡ p.size → taken.item_of peer once p.source own ≡ framed_item (n ∷ []) peer frame 28 size
+    own-item size long =
+        carried-item (carrier_in p.carrier) q.content once peer p.source
+        ∙ ap (λ (k : ℕ). item_with (n ∷ []) peer k (carrier_priority (carrier_in p.carrier)) (carrier_channel (carrier_in p.carrier)) q.content) (sym carries.from)
+        ∙ ap (λ (k : Carrier). item_with (n ∷ []) peer (source_of frame) (carrier_priority k) (carrier_channel k) q.content) (sym is.carrier)
+        ∙ ap (λ (k : ℕ). item_with (n ∷ []) peer (source_of frame) k (carrier_channel q.carrier) q.content) (sym carries.says)
+        ∙ ap (λ (o : Option ℕ). item_with (n ∷ []) peer (source_of frame) (priority_of frame) o q.content) (sym carries.on)
+        ∙ ap (item_with (n ∷ []) peer (source_of frame) (priority_of frame) (channel_of frame)) (bytes-are ∙ ap (λ (k : ℕ). piece_bytes frame k) (sym long))
+
+    own-size : (size : ℕ) → size ≡ length (taken.item_of peer once p.source own).content → size ≡ p.size
+    own-size size long = long ∙ ap (λ (i : state.Item). length i.content) (carried-item (carrier_in p.carrier) q.content once peer p.source) ∙ is.size
+
+    own-fits : (size : ℕ) → size ≡ p.size → Fits frame 28 size
+    own-fits size long =
+        let inside = carries.inside in
+        let within = carries.within in
+        let most = carries.most in
+        let came = is.size in
+        record { short = omega (arith, within, most, came, long); behind = omega arith; inside = omega (arith, inside, came, long) }
+
+    own-verdict : (d : Desk) (v : Verdict) → IsJudged s once peer p.source p.destination own v d d → IsVerdict s name peer frame 28 v d d
+    own-verdict d (verdict.Queued place priority size) j =
+        let long = own-size size j.1 in (
+          subst (λ (z : Row). IsQueued s z (framed_item (n ∷ []) peer frame 28 size) place) (sym own-row) (subst (λ (i : state.Item). IsQueued s (letter_row s once peer p.source p.destination own) i place) (own-item size long) j.3),
+          own-fits size long,
+          ap (λ (i : state.Item). i.priority) (sym (own-item size long)) ∙ sym j.2,
+          refl,
+        )
+    own-verdict d (verdict.Handed id a size) j =
+        let long = own-size size j.1 in (
+          subst (λ (z : Row). IsHanded s d.requests z (framed_item (n ∷ []) peer frame 28 size) id a) (sym own-row) (subst (λ (i : state.Item). IsHanded s d.requests (letter_row s once peer p.source p.destination own) i id a) (own-item size long) j.2),
+          own-fits size long,
+          refl,
+        )
+    own-verdict d (verdict.Returned word) j = subst (λ (z : Row). IsReturned s peer z word d d) (sym own-row) j
+
+    pub own-dealt : (d : Desk) (v : Verdict) → IsJudged s once peer p.source p.destination own v d d → IsDealt s name peer b frame d d (dealt.Alone v 28)
+    own-dealt d v j = record {
+      verdict = own-verdict d v j;
+      shut = ap (taken_change peer) (came-so _ own-here);
+      gives = gives-so _ (fate_of v) own-here;
+    }
 
   -- ---- it goes on with the open part
 

@@ -8,7 +8,7 @@ use Rattle.mc_base.specs.Fault.{fault}
 use Rattle.mc_base.specs.Frame.{destination_of, payload_of, source_of}
 use Rattle.mc_base.specs.Letter.{Carrier, Fields, Piece, of_message, of_packet}
 use Rattle.mc_base.specs.LetterFaults.{Form, a_channel, a_part, allows, fields_in, form, from_to, offset_in, only, part_forms, total_in}
-use Rattle.mc_base.specs.Limits.{total_size}
+use Rattle.mc_base.specs.Limits.{item_size}
 use Rattle.mc_base.specs.Reading.{Reading, announced_in, brings, letter_of, piece_of, reading, reading_by, says}
 use Rattle.mc_base.specs.declared.fault.Fault.{Fault}
 use Rattle.domain_parts.specs.InBook.{channel_of, priority_of}
@@ -30,7 +30,7 @@ pub record CarriesPiece (frame : List ℕ) (source : ℕ) (q : Piece) : Type 0 w
   pub inside : 28 + length q.content ≤ length frame
   pub some : 0 < length q.content
   pub within : q.offset + length q.content ≤ q.total
-  pub most : q.total ≤ total_size
+  pub most : q.total ≤ item_size
 
 -- ---- what the forms of pieces allow
 
@@ -78,7 +78,7 @@ module _ (frame : List ℕ) (lies : Lies frame part_forms) where
   long : 4 < n
   long = leb-true 5 n (and-both (nat_lt 4 n) _ part).0
 
-  bounds : (nat_le (offset_in f + (n - 4)) (total_in f) ≡ true) × (nat_le (total_in f) total_size ≡ true)
+  bounds : (nat_le (offset_in f + (n - 4)) (total_in f) ≡ true) × (nat_le (total_in f) item_size ≡ true)
   bounds = and-both _ _ (and-both (nat_lt 4 n) _ part).1
 
   behind : drop 4 f.content ≡ take (n - 4) (drop 28 frame)
@@ -113,7 +113,7 @@ module _ (frame : List ℕ) (lies : Lies frame part_forms) where
         inside = let inside = lies.inside in omega (arith, inside, rest, long);
         some = omega (arith, rest, long);
         within = let within = leb-true (offset_in f + (n - 4)) (total_in f) bounds.0 in omega (arith, within, rest);
-        most = leb-true (total_in f) total_size bounds.1;
+        most = leb-true (total_in f) item_size bounds.1;
       }
 
 -- ---- any frame

@@ -3,7 +3,7 @@ use Rattle.std.proofs.Common.{◌≡◌, ℕ, ◌+◌, ◌≤◌, Bool, true, fa
 use Rattle.std.specs.Prelude.{◌==◌}
 use Rattle.mc_base.specs.Letter.{Piece as PlainPiece, PlainLetter, carried, piece_in, plain_letter, saying_by, saying_of}
 use Rattle.mc_base.specs.Reading.{Reading, brings, is_faulty, announces, says, says_so, reading}
-use Rattle.mc_base.specs.Limits.{total_size}
+use Rattle.mc_base.specs.Limits.{item_size}
 use Rattle.mc_base.specs.declared.letter.Letter.{Letter}
 use Rattle.mc_base.specs.declared.request.Slot.{Slot}
 use Rattle.mc_base.specs.declared.fate.Fate.TheVariants.{Stray, Part as Held}
@@ -37,7 +37,7 @@ no-piece-in l source destination = go (piece_in l)
     go (Some p) other = absurd other
 
 -- a piece that was read has no more bytes than an item may have
-pub read-fits : (l : Letter) (source destination : ℕ) (q : PlainPiece) → piece_in l ≡ Some q → IsRead (says_so source destination (saying_of l)) → length q.content ≤ total_size
+pub read-fits : (l : Letter) (source destination : ℕ) (q : PlainPiece) → piece_in l ≡ Some q → IsRead (says_so source destination (saying_of l)) → length q.content ≤ item_size
 read-fits l source destination q some read =
     let c = piece-read read.frame source destination q (sym (ap (λ o. says_so source destination (saying_by o (plain_letter l))) some) ∙ read.is) in
     let within = c.within in
@@ -45,14 +45,9 @@ read-fits l source destination q some read =
     omega (arith, within, most)
 
 -- what the code answers of a piece that may begin a part
-pub begins-so : (p : Piece) (q : PlainPiece) → IsPiece p q → false ≡ begins q
+pub begins-so : (p : Piece) (q : PlainPiece) → IsPiece p q → (p.offset == 0) ≡ begins q
 unfolding begins
-begins-so p q is = refl
-
--- no part begins so far
-pub begins-none : (q : PlainPiece) → begins q ≡ true → ⊥
-unfolding begins
-begins-none q is = absurd cc
+begins-so p q is = ap (λ n. n == 0) (sym is.offset)
 
 -- a part that begins is carried as its first piece is
 pub carrier-begun : (c : Carrier) → carrier_by (kind_in c) (priority_in c) (channel_in c) ≡ carrier_in c

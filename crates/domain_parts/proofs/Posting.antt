@@ -8,7 +8,7 @@ use Rattle.mc_base.specs.declared.refusal.Refusal.{Refusal}
 use Rattle.mc_base.specs.declared.refusal.Refusal.TheVariants.{NoBuffer}
 use Rattle.endpoint_table.specs.Table as endpoint_table
 use Rattle.lane_end.specs.SendMoves.{Sent}
-use Rattle.board_model.specs.Answer.{Post, lacks_buffers, put_as, puts as puts_made, puts_of, refusal, success, success_puts}
+use Rattle.board_model.specs.Answer.{Post, lacks_buffers, passes_lane, put_as, puts as puts_made, puts_of, refusal, success, success_puts}
 use Rattle.board_model.specs.CallChanges.{success_changes, success_returned}
 use Rattle.board_model.specs.Change.{buffers_used, changed, changed_all}
 use Rattle.board_model.specs.DomainCall.{DomainCall}
@@ -17,7 +17,7 @@ use Rattle.board_model.specs.Labels.{success_packet}
 use Rattle.board_model.specs.Lists as lists
 use Rattle.board_model.specs.Serial.{put_entry}
 use Rattle.board_model.specs.State as state
-use Rattle.board_model.specs.State.{DomainState, Item, free_to, is_numbered}
+use Rattle.board_model.specs.State.{DomainState, Item, free_to, is_numbered, size_to}
 use Rattle.board_model.proofs.MessageLists.{get-position}
 use Rattle.board_model.proofs.PartLetters.{some-frames}
 use Rattle.domain_parts.specs.AllMoved.{frames_to, moves_at}
@@ -123,6 +123,13 @@ posted-lacks s x =
     let some = some-frames x.letter in
     ap (λ (ps : List (List ℕ)). lacks_buffers s (map (put_as x) ps)) some.are
     ∙ ap (λ (n : ℕ). nat_lt (free_to s x.peer) n) (length-map (some.first ∷ some.others) (put_as x) ∙ ap (λ (ps : List (List ℕ)). length ps) (sym some.are))
+
+-- and so many buffers does the lane have at all
+pub posted-passes : (s : DomainState) (x : Post) → passes_lane s (puts_of x) ≡ nat_lt (size_to s x.peer) (frames_needed x.letter)
+posted-passes s x =
+    let some = some-frames x.letter in
+    ap (λ (ps : List (List ℕ)). passes_lane s (map (put_as x) ps)) some.are
+    ∙ ap (λ (n : ℕ). nat_lt (size_to s x.peer) n) (length-map (some.first ∷ some.others) (put_as x) ∙ ap (λ (ps : List (List ℕ)). length ps) (sym some.are))
 
 -- a lane that has enough is there
 pub posted-place : (p : Parts) (x : Post) → lacks_buffers (state_of p) (puts_of x) ≡ false → (j : ℕ) × (Some j ≡ position (λ (y : Peer LaneSeen). y.number == x.peer) p.peers)

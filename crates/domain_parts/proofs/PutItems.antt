@@ -1,19 +1,19 @@
 -- In how many frames an item goes, whether its lane has as many buffers free, and which frames they are.
 use Rattle.std.proofs.Common.{◌≡◌, ℕ, ◌<◌, ◌≤◌, inl, inr, true, false, List, [], ◌∷◌, length, map, sym, ap, ◌∙◌, arith, subst, leb-true, leb-false, lt-ltb, le-ltb}
-use Rattle.std.specs.Prelude.{nat_le}
+use Rattle.std.specs.Prelude.{nat_le, nat_lt}
 use Rattle.std.specs.Int.{div_ceil}
 use Rattle.std.proofs.lemmas.Bool.{cases_Bool}
 use Rattle.mc_base.specs.Frame.{made}
 use Rattle.mc_base.specs.Letter.{piece_spelling, saying_text, whole}
-use Rattle.mc_base.specs.Limits.{piece_size, single_size, total_size}
+use Rattle.mc_base.specs.Limits.{piece_size, single_size, item_size}
 use Rattle.mc_base.specs.Pieces.{frames_needed, parts_count, parts_from}
-use Rattle.board_model.specs.Answer.{lacks_buffers, put_as, puts_of}
-use Rattle.board_model.specs.State.{DomainState, free_to}
+use Rattle.board_model.specs.Answer.{lacks_buffers, passes_lane, put_as, puts_of}
+use Rattle.board_model.specs.State.{DomainState, free_to, size_to}
 use Rattle.domain_parts.specs.Outgoing.{NeedsParts, letter_of, parts_put, post_of}
 use Rattle.domain_parts.specs.Pieces.{carrier_in}
 use Rattle.domain_parts.specs.declared.outgoing.Outgoing.{Outgoing}
 use Rattle.domain_parts.proofs.Cutting.{ceil-count, needs-parts, part-frames, part-spellings, single-spelling}
-use Rattle.domain_parts.proofs.Posting.{posted-lacks}
+use Rattle.domain_parts.proofs.Posting.{posted-lacks, posted-passes}
 
 -- so many frames were counted for an item
 module _ (o : Outgoing) (count : ℕ) (single : length o.bytes.now ≤ single_size → count ≡ 1) (parts : single_size < length o.bytes.now → count ≡ div_ceil (length o.bytes.now) piece_size) where
@@ -33,6 +33,10 @@ module _ (o : Outgoing) (count : ℕ) (single : length o.bytes.now ≤ single_si
 
   pub frames-fit : (s : DomainState) → count ≤ free_to s o.peer → false ≡ lacks_buffers s (puts_of (post_of o))
   frames-fit s enough = let is = frames-counted in sym (posted-lacks s (post_of o) ∙ le-ltb (free_to s o.peer) (frames_needed (letter_of o)) (omega (arith, is, enough)))
+
+  -- whether the lane has so many buffers at all
+  pub frames-pass : (s : DomainState) → nat_lt (size_to s o.peer) count ≡ passes_lane s (puts_of (post_of o))
+  frames-pass s = ap (nat_lt (size_to s o.peer)) frames-counted ∙ sym (posted-passes s (post_of o))
 
   -- one frame carries all its bytes
   pub one-carries : count ≤ 1 → length o.bytes.now ≤ single_size
@@ -58,7 +62,7 @@ module _ (o : Outgoing) (count : ℕ) (single : length o.bytes.now ≤ single_si
     pub counted-needs : NeedsParts piece_size count (length o.bytes.now)
     counted-needs = subst (λ (n : ℕ). NeedsParts piece_size n (length o.bytes.now)) (sym parts-many) (needs-parts (length o.bytes.now))
 
-    pub counted-few : length o.bytes.now ≤ total_size → count ≤ 17
+    pub counted-few : length o.bytes.now ≤ item_size → count ≤ 17
     counted-few short = let is = parts-many in omega (arith, is, short)
 
     pub counted-puts : parts_put piece_size count o ≡ puts_of (post_of o)

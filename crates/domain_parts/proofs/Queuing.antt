@@ -47,12 +47,12 @@ use Rattle.domain_parts.proofs.Waits.{endpoints-more, endpoints-stay, waiting-le
 
 -- ---- what a frame says lies in its buffer
 
-content-in_buffer : (bytes : List ℕ) (len size : ℕ) → 24 + size ≤ length (take len bytes) → take size (drop 24 (take len bytes)) ≡ take size (drop 24 bytes)
-content-in_buffer bytes len size fits =
-    let bound : 24 + size ≤ len = omega (arith, length-take len bytes) in
-    let split : len ≡ 24 + (len - 24) = omega arith in
-    let le : size ≤ len - 24 = omega arith in
-    ap (λ (n : ℕ). take size (drop 24 (take n bytes))) split ∙ ap (λ (xs : List ℕ). take size xs) (drop-take 24 (len - 24) bytes) ∙ take-take size (len - 24) (drop 24 bytes) le
+pub content-in_buffer : (bytes : List ℕ) (len headers size : ℕ) → headers + size ≤ length (take len bytes) → take size (drop headers (take len bytes)) ≡ take size (drop headers bytes)
+content-in_buffer bytes len headers size fits =
+    let bound : headers + size ≤ len = omega (arith, length-take len bytes) in
+    let split : len ≡ headers + (len - headers) = omega arith in
+    let le : size ≤ len - headers = omega arith in
+    ap (λ (n : ℕ). take size (drop headers (take n bytes))) split ∙ ap (λ (xs : List ℕ). take size xs) (drop-take headers (len - headers) bytes) ∙ take-take size (len - headers) (drop headers bytes) le
 
 pub source-in_buffer : (bytes : List ℕ) (len size : ℕ) → 24 + size ≤ length (take len bytes) → source_of (take len bytes) ≡ source_of bytes
 source-in_buffer bytes len size fits =
@@ -98,14 +98,14 @@ handed-receives_so (ask.Lookup name) s at is = absurd cc
 handed-receives_so (ask.Connect channel) s at is = absurd cc
 
 -- a buffer of the lane from a peer is put into the book
-module _ (r : Records) (q : Requests) (b b' : Book) (p : Out) (peer : ℕ) (s : Slot) (buffer : Stored) (size len : ℕ)
+module _ (r : Records) (q : Requests) (b b' : Book) (p : Out) (peer : ℕ) (s : Slot) (buffer : Stored) (headers size len : ℕ)
     (places : AreInPlacesBut buffer.number peer r q b p) (at : s ≡ slot_at peer buffer.number)
-    (book : b' ≡ with_queued b s (kept_in_buffer buffer 24 size)) (size_fits : size ≤ item_size) (fits : 24 + size ≤ length (take len buffer.bytes)) where
+    (book : b' ≡ with_queued b s (kept_in_buffer buffer headers size)) (size_fits : size ≤ item_size) (behind : 24 ≤ headers) (inside : headers + size ≤ length (take len buffer.bytes)) where
   abbrev s' : Slot
   s' = slot_at peer buffer.number
 
   abbrev k : Kept
-  k = kept_in_buffer buffer 24 size
+  k = kept_in_buffer buffer headers size
 
   abbrev ws : List Waiting
   ws = all_waiting r.endpoints
@@ -118,6 +118,9 @@ module _ (r : Records) (q : Requests) (b b' : Book) (p : Out) (peer : ℕ) (s : 
 
   abbrev frame : List ℕ
   frame = take len buffer.bytes
+
+  fits : 24 + size ≤ length frame
+  fits = omega (arith, behind, inside)
 
   book-is : b' ≡ with_queued b s' k
   book-is = book ∙ ap (λ (x : Slot). with_queued b x k) at
@@ -157,7 +160,7 @@ module _ (r : Records) (q : Requests) (b b' : Book) (p : Out) (peer : ℕ) (s : 
   others = in-others (slots_of r q) (lent_slots r) b st s' away k
 
   short : length (content k) ≤ item_size
-  short = omega (arith, length-take size (drop 24 buffer.bytes), size_fits)
+  short = omega (arith, length-take size (drop headers buffer.bytes), size_fits)
 
   -- what is lent is lent in other slots
   lent-still : AllByRecursion (IsLentAs b2) r.lent
@@ -176,15 +179,15 @@ module _ (r : Records) (q : Requests) (b b' : Book) (p : Out) (peer : ℕ) (s : 
       ∙ ap (λ (xs : List PartRead). record (held_by b r q) { parts = xs }) (parts-stay b b2 s' others r.parts none-open)
 
   -- the message of the frame, as many of whose bytes as it has stand in the buffer
-  item-is : item_with (buffer.number ∷ []) peer (source_of buffer.bytes) (priority_of buffer.bytes) (channel_of buffer.bytes) (take size (drop 24 buffer.bytes) ++ []) ≡ framed_item (buffer.number ∷ []) peer frame size
+  item-is : item_with (buffer.number ∷ []) peer (source_of buffer.bytes) (priority_of buffer.bytes) (channel_of buffer.bytes) (take size (drop headers buffer.bytes) ++ []) ≡ framed_item (buffer.number ∷ []) peer frame headers size
   item-is =
-      ap (λ (xs : List ℕ). item_with (buffer.number ∷ []) peer (source_of buffer.bytes) (priority_of buffer.bytes) (channel_of buffer.bytes) xs) (append-nil (take size (drop 24 buffer.bytes)))
-      ∙ ap (λ (n : ℕ). item_with (buffer.number ∷ []) peer n (priority_of buffer.bytes) (channel_of buffer.bytes) (take size (drop 24 buffer.bytes))) (sym (source-in_buffer buffer.bytes len size fits))
-      ∙ ap (λ (n : ℕ). item_with (buffer.number ∷ []) peer (source_of frame) n (channel_of buffer.bytes) (take size (drop 24 buffer.bytes))) (sym (priority-in_buffer buffer.bytes len size fits))
-      ∙ ap (λ (o : Option ℕ). item_with (buffer.number ∷ []) peer (source_of frame) (priority_of frame) o (take size (drop 24 buffer.bytes))) (sym (channel-in_buffer buffer.bytes len size fits))
-      ∙ ap (λ (xs : List ℕ). item_with (buffer.number ∷ []) peer (source_of frame) (priority_of frame) (channel_of frame) xs) (sym (content-in_buffer buffer.bytes len size fits))
+      ap (λ (xs : List ℕ). item_with (buffer.number ∷ []) peer (source_of buffer.bytes) (priority_of buffer.bytes) (channel_of buffer.bytes) xs) (append-nil (take size (drop headers buffer.bytes)))
+      ∙ ap (λ (n : ℕ). item_with (buffer.number ∷ []) peer n (priority_of buffer.bytes) (channel_of buffer.bytes) (take size (drop headers buffer.bytes))) (sym (source-in_buffer buffer.bytes len size fits))
+      ∙ ap (λ (n : ℕ). item_with (buffer.number ∷ []) peer (source_of frame) n (channel_of buffer.bytes) (take size (drop headers buffer.bytes))) (sym (priority-in_buffer buffer.bytes len size fits))
+      ∙ ap (λ (o : Option ℕ). item_with (buffer.number ∷ []) peer (source_of frame) (priority_of frame) o (take size (drop headers buffer.bytes))) (sym (channel-in_buffer buffer.bytes len size fits))
+      ∙ ap (λ (xs : List ℕ). item_with (buffer.number ∷ []) peer (source_of frame) (priority_of frame) (channel_of frame) xs) (sym (content-in_buffer buffer.bytes len headers size inside))
 
-  item-here : numbered_at b2 s' ≡ framed_item (buffer.number ∷ []) peer frame size
+  item-here : numbered_at b2 s' ≡ framed_item (buffer.number ∷ []) peer frame headers size
   item-here = ap (λ (o : Option Whole). item_read o s' (priority_in o)) here ∙ item-is
 
   -- its lane and every other, where it stands among these slots
@@ -238,11 +241,11 @@ module _ (r : Records) (q : Requests) (b b' : Book) (p : Out) (peer : ℕ) (s : 
       parts = open-still;
     })
 
-    pub queued-table : table_in b' r' q ≡ with_held (table_in b r q) (record (held_by b r q) { endpoints = changed_at (queued_last (framed_item (buffer.number ∷ []) peer frame size)) i (endpoints_in b r.endpoints) })
+    pub queued-table : table_in b' r' q ≡ with_held (table_in b r q) (record (held_by b r q) { endpoints = changed_at (queued_last (framed_item (buffer.number ∷ []) peer frame headers size)) i (endpoints_in b r.endpoints) })
     queued-table =
         let b'' = with_queued b s' k in
         let es = r.endpoints in
-        let item : item_in b'' w ≡ item_with (buffer.number ∷ []) peer (source_of buffer.bytes) (priority_of buffer.bytes) (channel_of buffer.bytes) (take size (drop 24 buffer.bytes) ++ []) = ap (λ (o : Option Whole). item_read o s' priority) here ∙ ap (λ (n : ℕ). item_with (buffer.number ∷ []) peer (source_of buffer.bytes) n (channel_of buffer.bytes) (take size (drop 24 buffer.bytes) ++ [])) priority-is in
+        let item : item_in b'' w ≡ item_with (buffer.number ∷ []) peer (source_of buffer.bytes) (priority_of buffer.bytes) (channel_of buffer.bytes) (take size (drop headers buffer.bytes) ++ []) = ap (λ (o : Option Whole). item_read o s' priority) here ∙ ap (λ (n : ℕ). item_with (buffer.number ∷ []) peer (source_of buffer.bytes) n (channel_of buffer.bytes) (take size (drop headers buffer.bytes) ++ [])) priority-is in
         ap (λ (x : Records). table_in b' x q) records-are
         ∙ ap (λ (x : Book). table_in x (with_waiting_at r i w) q) book-is
         ∙ ap (λ (xs : List state.Endpoint). with_held (table_in b r q) (record { endpoints = xs; requests = requests_in b'' q.standing; lent = packets_in b'' r.lent; parts = open_parts b'' r.parts })) (endpoints-more b'' w es i)
@@ -283,7 +286,7 @@ module _ (r : Records) (q : Requests) (b b' : Book) (p : Out) (peer : ℕ) (s : 
       parts = open-still;
     })
 
-    pub handed-table : table_in b' r q' ≡ with_held (table_in b r q) (record (held_by b r q) { requests = changed (complete_with (framed_item (buffer.number ∷ []) peer frame size)) (position (is_id id) q.standing) (requests_in b q.standing) })
+    pub handed-table : table_in b' r q' ≡ with_held (table_in b r q) (record (held_by b r q) { requests = changed (complete_with (framed_item (buffer.number ∷ []) peer frame headers size)) (position (is_id id) q.standing) (requests_in b q.standing) })
     handed-table =
         let b'' = with_queued b s' k in
         let how : Complete = handed_by a s' in

@@ -19,7 +19,6 @@ use Rattle.mc_base.specs.declared.fault.LetterFault.TheVariants.{PayloadShort, M
 use Rattle.mc_base.specs.declared.fault.NsFault.TheVariants.{NsSize, NsFlags, NsName}
 use Rattle.board_model.specs.Dealing.{fault_word, keeps_buffer}
 use Rattle.domain_parts.specs.InBook.{channel_of, priority_of}
-use Rattle.domain_parts.specs.PlacedFrames.{item_of}
 use Rattle.board_model.specs.Parts.{Came}
 use Rattle.board_model.specs.State.{Item}
 use Rattle.board_model.specs.TakenFrames as taken
@@ -180,21 +179,11 @@ pub record Carries (frame : List ℕ) (source priority : ℕ) (channel : Option 
   pub from : source_of frame ≡ source
   pub says : priority_of frame ≡ priority
   pub on : channel_of frame ≡ channel
-  pub fits : Fits frame (length content)
+  pub fits : Fits frame 24 (length content)
   pub content_is : take (length content) (drop 24 frame) ≡ content
 
 not_le : (a b : ℕ) → nat_le a b ≡ true → a ≤ b
 not_le a b e = grind arith
-
--- the item lies in the frame as its payload says
-framed-whole : (frame : List ℕ) → Lies frame forms → (peer size : ℕ) → size ≡ length (fields_in (payload_of frame)).content → framed_item (0 ∷ []) peer frame size ≡ item_of peer frame
-framed-whole frame lies peer size is =
-    let payload = payload_of frame in
-    ap (λ (n : ℕ). framed_item (0 ∷ []) peer frame n) is
-    ∙ ap (λ (c : List ℕ). item_with (0 ∷ []) peer (source_of frame) (priority_of frame) (channel_of frame) c) (sym lies.content)
-    ∙ ap (λ (k : ℕ). item_with (0 ∷ []) peer (source_of frame) (if k == 1 then slice_index frame 19 else 0) (if k == 1 then None else Some (number_at 20 4 frame)) (drop 8 payload)) (sym lies.kind)
-    ∙ ap (λ (a : ℕ). item_with (0 ∷ []) peer (source_of frame) (if slice_index payload 2 == 1 then a else 0) (if slice_index payload 2 == 1 then None else Some (number_at 20 4 frame)) (drop 8 payload)) (sym lies.argument)
-    ∙ ap (λ (n : ℕ). item_with (0 ∷ []) peer (source_of frame) (if slice_index payload 2 == 1 then slice_index payload 3 else 0) (if slice_index payload 2 == 1 then None else Some n) (drop 8 payload)) (sym lies.channel)
 
 -- a width of a scalar is that of its bits
 width-back : (a : ℕ) → a_width a ≡ true → bytes_of_bits (bits_of_bytes a) ≡ a
@@ -218,11 +207,11 @@ module _ (frame : List ℕ) (lies : Lies frame forms) where
   abbrev fs : Fields
   fs = fields_in (payload_of frame)
 
-  fits_so : (n : ℕ) → n ≡ length fs.content → n ≤ 488 → Fits frame n
+  fits_so : (n : ℕ) → n ≡ length fs.content → n ≤ 488 → Fits frame 24 n
   fits_so n is short = record {
-    short = short;
+    short = omega (arith, short);
+    behind = omega arith;
     inside = let inside = lies.inside in omega (arith, inside, is);
-    whole = λ peer. framed-whole frame lies peer n is;
   }
 
   -- a message
@@ -337,8 +326,8 @@ module _ (frame : List ℕ) (source destination : ℕ) (l : PlainLetter) where
 
 -- it is the item in the frame
 pub record CarriesItem (names : List ℕ) (frame : List ℕ) (peer : ℕ) (item : Item) : Type 0 where
-  pub is : item ≡ framed_item names peer frame (length item.content)
-  pub fits : Fits frame (length item.content)
+  pub is : item ≡ framed_item names peer frame 24 (length item.content)
+  pub fits : Fits frame 24 (length item.content)
   pub says : priority_of frame ≡ item.priority
 
 carried : (names : List ℕ) (peer : ℕ) (frame : List ℕ) (source source' priority : ℕ) (channel : Option ℕ) (content : List ℕ) → source' ≡ source → Carries frame source' priority channel content → CarriesItem names frame peer (item_with names peer source priority channel content)

@@ -318,14 +318,14 @@ module _ {L : Type 0} (M : L → List LaneMove → L → Type 0) (m-none : (l : 
       keeps-plain : (c : Step) → Sound (done c plain1) → Sound (done c p1)
       keeps-plain c keeps = subst (λ (p : Parts). Sound (done c p)) (sym parts1) keeps
 
-      module _ (size : ℕ) (fits : Fits frame size) (b' : Book) (books : b' ≡ with_queued b1 (slot_at n m) (kept_in_buffer buffer 24 size)) (names : Names) (same : names ≡ x.known) (rs : List Reply) (same_rs : rs ≡ x.replies) (shut : taken_change n (came_from s n (Some m) frame) ≡ frame_taken n None []) where
+      module _ (headers size : ℕ) (fits : Fits frame headers size) (b' : Book) (books : b' ≡ with_queued b1 (slot_at n m) (kept_in_buffer buffer headers size)) (names : Names) (same : names ≡ x.known) (rs : List Reply) (same_rs : rs ≡ x.replies) (shut : taken_change n (came_from s n (Some m) frame) ≡ frame_taken n None []) where
         abbrev said : state.Item
-        said = framed_item (m ∷ []) n frame size
+        said = framed_item (m ∷ []) n frame headers size
 
         -- its message is queued
         module _ (j priority : ℕ) (its : IsQueuedBy s (row_from s n (Some m) frame) said j) (says : priority_of frame ≡ priority) (gives : given_by_frame s n (Some m) frame Queued ≡ held_of s n ++ []) (r' : Records) (q' : Requests) (records : r' ≡ with_waiting_at r1 j (waiting (slot_at n m) priority)) (requests : q' ≡ q) where
           abbrev as_queued : Step
-          as_queued = frame_queued n buffer len size j priority
+          as_queued = frame_queued n buffer len headers size j priority
 
           within-queued : j < length r1.endpoints
           within-queued = let within = its.within in let long = length-map r.endpoints (endpoint_in b) in omega (arith, within, long)
@@ -333,28 +333,28 @@ module _ {L : Type 0} (M : L → List LaneMove → L → Type 0) (m-none : (l : 
           pub queued-keeps : Sound (parts_in v b' r' q' t (end_ps names rs))
           queued-keeps =
               kept-keeps as_queued (λ k. refl) (λ zs. refl) b' r' q' names same rs same_rs books records requests refl
-              (keeps-plain as_queued (frame_queued-keeps plain1 sound-plain i y1 at1 buffer len size apart1 fits.short fits.inside j priority within-queued says))
+              (keeps-plain as_queued (frame_queued-keeps plain1 sound-plain i y1 at1 buffer len headers size apart1 fits.short fits.behind fits.inside j priority within-queued says))
 
           pub queued-takes : lines' ≡ lines ++ take_line n frame Queued ∷ [] → Takes M i 1 (holding_in v b r q t ps) (holding_in v b' r' q' t (end_ps names rs)) lines lines'
           queued-takes told =
               kept-takes as_queued (λ k. refl) (λ zs. refl) b' r' q' names same rs same_rs books records requests refl None [] its.applies Queued (item_queued its.destination said ∷ []) shut its.row_is
-              (from-plain as_queued (frame_taken n None [] ∷ item_queued its.destination said ∷ []) (frame_queued-is plain1 sound-plain i y1 at1 buffer len size apart1 fits.short fits.inside closed1 j priority its.destination says (ap (position (has_address_of its.destination)) plain-endpoints ∙ its.at)))
+              (from-plain as_queued (frame_taken n None [] ∷ item_queued its.destination said ∷ []) (frame_queued-is plain1 sound-plain i y1 at1 buffer len headers size apart1 fits.short fits.behind fits.inside closed1 j priority its.destination says (ap (position (has_address_of its.destination)) plain-endpoints ∙ its.at)))
               gives (ap (λ (z : Requests). map (λ c. c.id) z.standing) requests) (ap (λ (z : Records). z.lent) records) told
 
         -- it is handed to a request
         module _ (id : RequestId) (a : Ask) (its : IsHanded s q (row_from s n (Some m) frame) said id a) (gives : given_by_frame s n (Some m) frame Handed ≡ held_of s n ++ []) (r' : Records) (q' : Requests) (records : r' ≡ r1) (requests : q' ≡ with_complete q id (handed_by a (slot_at n m))) where
           abbrev as_handed : Step
-          as_handed = frame_handed n buffer len size id a
+          as_handed = frame_handed n buffer len headers size id a
 
           pub handed-keeps : Sound (parts_in v b' r' q' t (end_ps names rs))
           handed-keeps =
               kept-keeps as_handed (λ k. refl) (λ zs. refl) b' r' q' names same rs same_rs books records requests refl
-              (keeps-plain as_handed (frame_handed-keeps plain1 sound-plain i y1 at1 buffer len size apart1 fits.short fits.inside id a its.pending its.asks its.endpoint.local its.receives))
+              (keeps-plain as_handed (frame_handed-keeps plain1 sound-plain i y1 at1 buffer len headers size apart1 fits.short fits.behind fits.inside id a its.pending its.asks its.endpoint.local its.receives))
 
           pub handed-takes : lines' ≡ lines ++ take_line n frame Handed ∷ [] → Takes M i 1 (holding_in v b r q t ps) (holding_in v b' r' q' t (end_ps names rs)) lines lines'
           handed-takes told =
               kept-takes as_handed (λ k. refl) (λ zs. refl) b' r' q' names same rs same_rs books records requests refl None [] its.applies Handed (item_handed its.destination said ∷ []) shut its.row_is
-              (from-plain as_handed (frame_taken n None [] ∷ item_handed its.destination said ∷ []) (frame_handed-is plain1 sound-plain i y1 at1 buffer len size apart1 fits.short fits.inside closed1 id a its.destination its.endpoint its.pending (ap (λ (es : List state.Endpoint). find (has_address_of its.destination) es) plain-endpoints ∙ its.named) (ap (position (waits_at its.endpoint.local)) plain-requests ∙ its.waits)))
+              (from-plain as_handed (frame_taken n None [] ∷ item_handed its.destination said ∷ []) (frame_handed-is plain1 sound-plain i y1 at1 buffer len headers size apart1 fits.short fits.behind fits.inside closed1 id a its.destination its.endpoint its.pending (ap (λ (es : List state.Endpoint). find (has_address_of its.destination) es) plain-endpoints ∙ its.named) (ap (position (waits_at its.endpoint.local)) plain-requests ∙ its.waits)))
               gives (ap (λ (z : Requests). map (λ c. c.id) z.standing) requests ∙ ids-stay id (handed_by a (slot_at n m)) q.standing) (ap (λ (z : Records). z.lent) records) told
 
       -- a part begins with it

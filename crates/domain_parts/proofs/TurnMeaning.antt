@@ -9,7 +9,7 @@ use Rattle.mc_base.specs.NameMap.{Names}
 use Rattle.mc_base.specs.Stored.{Stored}
 use Rattle.mc_base.specs.declared.name.EndName.{EndName}
 use Rattle.mc_base.specs.declared.request.RequestId.{RequestId}
-use Rattle.board_model.specs.Change.{Change, changed, changed_all, first_put, buffers_back, frame_taken, frames_shown, item_handed, item_queued, name_found, names_known}
+use Rattle.board_model.specs.Change.{changed, changed_all, first_put, buffers_back, frame_taken, frames_shown, item_handed, item_queued, name_found, names_known}
 use Rattle.board_model.specs.Change as change
 use Rattle.domain_parts.specs.PlacedFrames.{complete_with, queued_last}
 use Rattle.board_model.specs.Lists.{changed_at, changed_first}
@@ -257,13 +257,13 @@ module _ (p : Parts) where
 
 -- ---- a frame is taken and its item kept
 
-module _ (p : Parts) (sound : Sound p) (i : ℕ) (x : Peer LaneSeen) (there : slice_get p.peers i ≡ Some x) (buffer : Stored) (len size : ℕ) (apart : AreApart x.ends.size_from (x.ends.out ++ buffer.number ∷ []))
-    (small : size ≤ item_size) (fits : 24 + size ≤ length (take len buffer.bytes)) (closed : part_open p.records x.number ≡ None) where
+module _ (p : Parts) (sound : Sound p) (i : ℕ) (x : Peer LaneSeen) (there : slice_get p.peers i ≡ Some x) (buffer : Stored) (len headers size : ℕ) (apart : AreApart x.ends.size_from (x.ends.out ++ buffer.number ∷ []))
+    (small : size ≤ item_size) (behind : 24 ≤ headers) (inside : headers + size ≤ length (take len buffer.bytes)) (closed : part_open p.records x.number ≡ None) where
   abbrev frame : List ℕ
   frame = take len buffer.bytes
 
   abbrev said : state.Item
-  said = framed_item (buffer.number ∷ []) x.number frame size
+  said = framed_item (buffer.number ∷ []) x.number frame headers size
 
   pub shown_less : peers_in plain (parts_read p) p.table (map (moved_peer (at_peer x.number (receiver (Took buffer.number frame) ∷ []))) p.peers) ≡ changed_first (is_numbered x.number) (λ y. record y { shown = y.shown - 1; part = None }) (peers_in plain (parts_read p) p.table p.peers)
   shown_less = shown-fewer p sound i x there closed (receiver (Took buffer.number frame) ∷ []) refl refl refl
@@ -288,10 +288,10 @@ module _ (p : Parts) (sound : Sound p) (i : ℕ) (x : Peer LaneSeen) (there : sl
       ∙ ap (λ (hs : List HeldFrame). record (state_of p) { endpoints = es'; requests = rs'; peers = shown; held = hs }) (none-held p sound i x there closed)
 
   pub frame_queued-is : (j priority destination : ℕ) → priority_of frame ≡ priority → position (has_address_of destination) (endpoints_in p.book p.records.endpoints) ≡ Some j
-      → state_of (done (frame_queued x.number buffer len size j priority) p) ≡ changed_all (state_of p) (frame_taken x.number None [] ∷ item_queued destination said ∷ [])
+      → state_of (done (frame_queued x.number buffer len headers size j priority) p) ≡ changed_all (state_of p) (frame_taken x.number None [] ∷ item_queued destination said ∷ [])
   frame_queued-is j priority destination says at =
-      let now = done (frame_queued x.number buffer len size j priority) p in
-      let is = queued-table p.records p.requests p.book now.book _ x.number (slot_at x.number buffer.number) buffer size len (but-one p sound i x there buffer.number apart) refl refl small fits now.records j priority says refl in
+      let now = done (frame_queued x.number buffer len headers size j priority) p in
+      let is = queued-table p.records p.requests p.book now.book _ x.number (slot_at x.number buffer.number) buffer headers size len (but-one p sound i x there buffer.number apart) refl refl small behind inside now.records j priority says refl in
       now_read _ _ _ _ _ _
       (ap (λ (t : held.Table). t.held.endpoints) is ∙ ap (λ (o : Option ℕ). lists.changed (queued_last said) o (endpoints_in p.book p.records.endpoints)) (sym at) ∙ changed-position (has_address_of destination) (queued_last said) (endpoints_in p.book p.records.endpoints))
       (ap (λ (t : held.Table). t.held.requests) is)
@@ -299,10 +299,10 @@ module _ (p : Parts) (sound : Sound p) (i : ℕ) (x : Peer LaneSeen) (there : sl
       (ap (λ (t : held.Table). t.held.parts) is)
 
   pub frame_handed-is : (id : RequestId) (a : Ask) (destination : ℕ) (e : state.Endpoint) → IsPending p.requests id → endpoint_of (state_of p) destination ≡ Some e → position (state.waits_at e.local) (state_of p).requests ≡ position (is_id id) p.requests.standing
-      → state_of (done (frame_handed x.number buffer len size id a) p) ≡ changed_all (state_of p) (frame_taken x.number None [] ∷ item_handed destination said ∷ [])
+      → state_of (done (frame_handed x.number buffer len headers size id a) p) ≡ changed_all (state_of p) (frame_taken x.number None [] ∷ item_handed destination said ∷ [])
   frame_handed-is id a destination e pending named waits =
-      let now = done (frame_handed x.number buffer len size id a) p in
-      let is = handed-table p.records p.requests p.book now.book _ x.number (slot_at x.number buffer.number) buffer size len (but-one p sound i x there buffer.number apart) refl refl small fits now.requests id a sound.receives pending refl in
+      let now = done (frame_handed x.number buffer len headers size id a) p in
+      let is = handed-table p.records p.requests p.book now.book _ x.number (slot_at x.number buffer.number) buffer headers size len (but-one p sound i x there buffer.number apart) refl refl small behind inside now.requests id a sound.receives pending refl in
       now_read _ _ _ _ _ _
       (ap (λ (t : held.Table). t.held.endpoints) is)
       (ap (λ (t : held.Table). t.held.requests) is

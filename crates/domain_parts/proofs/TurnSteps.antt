@@ -262,25 +262,25 @@ live_more (suc j) w (e ∷ es) = ap (λ xs. live_record e ∷ xs) (live_more j w
 pub waiting-same : (r : Records) (j : ℕ) (w : Waiting) → SameEndpoints r (with_waiting_at r j w)
 waiting-same r j w = record { number = refl; given = refl; room = refl; live = live_more j w r.endpoints }
 
-module _ (p : Parts) (sound : Sound p) (i : ℕ) (x : Peer LaneSeen) (there : slice_get p.peers i ≡ Some x) (buffer : Stored) (len size : ℕ) (apart : AreApart x.ends.size_from (x.ends.out ++ buffer.number ∷ []))
-    (small : size ≤ item_size) (fits : 24 + size ≤ length (take len buffer.bytes)) where
+module _ (p : Parts) (sound : Sound p) (i : ℕ) (x : Peer LaneSeen) (there : slice_get p.peers i ≡ Some x) (buffer : Stored) (len headers size : ℕ) (apart : AreApart x.ends.size_from (x.ends.out ++ buffer.number ∷ []))
+    (small : size ≤ item_size) (behind : 24 ≤ headers) (inside : headers + size ≤ length (take len buffer.bytes)) where
   abbrev placed_but : AreInPlacesBut buffer.number x.number p.records p.requests p.book (out_of x.ends.size_from (x.ends.out ++ buffer.number ∷ []))
   placed_but = but-one p sound i x there buffer.number apart
 
-  pub frame_queued-keeps : (j priority : ℕ) → j < length p.records.endpoints → priority_of (take len buffer.bytes) ≡ priority → Sound (done (frame_queued x.number buffer len size j priority) p)
+  pub frame_queued-keeps : (j priority : ℕ) → j < length p.records.endpoints → priority_of (take len buffer.bytes) ≡ priority → Sound (done (frame_queued x.number buffer len headers size j priority) p)
   frame_queued-keeps j priority within says =
-      let now = done (frame_queued x.number buffer len size j priority) p in
+      let now = done (frame_queued x.number buffer len headers size j priority) p in
       kept-sound p sound i x there buffer.number apart (take len buffer.bytes) now.book now.records now.requests (waiting-same p.records j (waiting (slot_at x.number buffer.number) priority)) refl
-      (queued-places p.records p.requests p.book now.book _ x.number (slot_at x.number buffer.number) buffer size len placed_but refl refl small fits now.records j priority says refl within)
-      (queued-others p.records p.requests p.book now.book _ x.number (slot_at x.number buffer.number) buffer size len placed_but refl refl small fits now.records j priority says refl within)
-      (queued-shelves p.book (slot_at x.number buffer.number) (kept_in_buffer buffer 24 size))
+      (queued-places p.records p.requests p.book now.book _ x.number (slot_at x.number buffer.number) buffer headers size len placed_but refl refl small behind inside now.records j priority says refl within)
+      (queued-others p.records p.requests p.book now.book _ x.number (slot_at x.number buffer.number) buffer headers size len placed_but refl refl small behind inside now.records j priority says refl within)
+      (queued-shelves p.book (slot_at x.number buffer.number) (kept_in_buffer buffer headers size))
       sound.receives
 
-  pub frame_handed-keeps : (id : RequestId) (a : Ask) → IsPending p.requests id → option_map (λ r. r.ask) (request_of p.requests id) ≡ Some a → (at : Local) → receives_at at a ≡ true → Sound (done (frame_handed x.number buffer len size id a) p)
+  pub frame_handed-keeps : (id : RequestId) (a : Ask) → IsPending p.requests id → option_map (λ r. r.ask) (request_of p.requests id) ≡ Some a → (at : Local) → receives_at at a ≡ true → Sound (done (frame_handed x.number buffer len headers size id a) p)
   frame_handed-keeps id a pending asks at receives =
-      let now = done (frame_handed x.number buffer len size id a) p in
+      let now = done (frame_handed x.number buffer len headers size id a) p in
       kept-sound p sound i x there buffer.number apart (take len buffer.bytes) now.book now.records now.requests (same-endpoints p.records) refl
-      (handed-places p.records p.requests p.book now.book _ x.number (slot_at x.number buffer.number) buffer size len placed_but refl refl small fits now.requests id a sound.receives pending refl)
-      (handed-others p.records p.requests p.book now.book _ x.number (slot_at x.number buffer.number) buffer size len placed_but refl refl small fits now.requests id a sound.receives pending refl)
-      (queued-shelves p.book (slot_at x.number buffer.number) (kept_in_buffer buffer 24 size))
-      (handed-receives p.records p.requests p.book now.book _ x.number (slot_at x.number buffer.number) buffer size len placed_but refl refl small fits now.requests id a sound.receives pending refl asks at receives)
+      (handed-places p.records p.requests p.book now.book _ x.number (slot_at x.number buffer.number) buffer headers size len placed_but refl refl small behind inside now.requests id a sound.receives pending refl)
+      (handed-others p.records p.requests p.book now.book _ x.number (slot_at x.number buffer.number) buffer headers size len placed_but refl refl small behind inside now.requests id a sound.receives pending refl)
+      (queued-shelves p.book (slot_at x.number buffer.number) (kept_in_buffer buffer headers size))
+      (handed-receives p.records p.requests p.book now.book _ x.number (slot_at x.number buffer.number) buffer headers size len placed_but refl refl small behind inside now.requests id a sound.receives pending refl asks at receives)

@@ -2,14 +2,14 @@
 -- Source: docs/PROFILE.md, "What a domain does with a taken frame".
 use Rattle.std.specs.Prelude.{◌≡◌, ℕ, ◌+◌, ◌≤◌, Bool, true, false, List, [], ◌∷◌, ◌++◌, length, take, drop, Option, Some, None, option_map}
 use Rattle.mc_base.specs.Frame.{source_of}
-use Rattle.mc_base.specs.Letter.{carried}
+use Rattle.mc_base.specs.Letter.{Piece as PlainPiece, carried}
 use Rattle.mc_base.specs.Limits.{item_size}
 use Rattle.mc_base.specs.declared.fate.Fate.{Fate}
 use Rattle.mc_base.specs.declared.fate.Fate.TheVariants.{Queued, Handed, Part}
 use Rattle.mc_base.specs.declared.request.Slot.{Slot}
 use Rattle.board_model.specs.Change.{frame_taken}
 use Rattle.board_model.specs.Deeds.{taken_change}
-use Rattle.board_model.specs.Parts.{came_from, named_so, part_of}
+use Rattle.board_model.specs.Parts.{alone, came_from, coming_from, named_so, part_of}
 use Rattle.board_model.specs.Returns.{given_at_once, given_by_frame}
 use Rattle.board_model.specs.State as state
 use Rattle.board_model.specs.State.{DomainState, held_of}
@@ -44,9 +44,9 @@ abbrev pub grown_bytes : Book → OpenPart → List ℕ → ℕ → List ℕ
 grown_bytes b o frame size = content_in (whole_at b o.slot) ++ piece_bytes frame size
 
 module _ (s : DomainState) (name : Option ℕ) (peer : ℕ) (b : Book) (frame : List ℕ) (d d' : Desk) where
-  -- no part is open after it, and the frames of the one that was go back
-  pub record IsAlone (v : Verdict) : Type 0 where
-    pub verdict : IsVerdict s name peer frame v d d'
+  -- No part is open after it, and the frames of the one that was go back. An item of the frame lies behind so many bytes of headers
+  pub record IsAlone (v : Verdict) (headers : ℕ) : Type 0 where
+    pub verdict : IsVerdict s name peer frame headers v d d'
     pub shut : taken_change peer (came_from s peer name frame) ≡ frame_taken peer None []
     pub gives : given_by_frame s peer name frame (fate_of v) ≡ held_of s peer ++ given_at_once (fate_of v) (named_so name ∷ [])
 
@@ -97,7 +97,7 @@ module _ (s : DomainState) (name : Option ℕ) (peer : ℕ) (b : Book) (frame : 
     pub same : d' ≡ d
 
 abbrev pub IsDealt : DomainState → Option ℕ → ℕ → Book → List ℕ → Desk → Desk → Dealt → Type 0
-IsDealt s name peer b frame d d' (dealt.Alone v) = IsAlone s name peer b frame d d' v
+IsDealt s name peer b frame d d' (dealt.Alone v headers) = IsAlone s name peer b frame d d' v headers
 IsDealt s name peer b frame d d' (dealt.Begins p) = IsBegun s name peer b frame d d' p
 IsDealt s name peer b frame d d' (dealt.Grows g size) = IsGrown s name peer b frame d d' g size
 IsDealt s name peer b frame d d' (dealt.WholeQueued g size place priority) = IsWhole s name peer b frame d d' g size Queued (λ item. (item.priority ≡ priority) × IsQueued s (row_from s peer name frame) item place)
@@ -105,7 +105,7 @@ IsDealt s name peer b frame d d' (dealt.WholeHanded g size id a) = IsWhole s nam
 
 -- the word for it
 abbrev pub word_of : Dealt → Fate
-word_of (dealt.Alone v) = fate_of v
+word_of (dealt.Alone v headers) = fate_of v
 word_of (dealt.Begins p) = Part
 word_of (dealt.Grows g size) = Part
 word_of (dealt.WholeQueued g size place priority) = Queued
@@ -117,7 +117,7 @@ word_of (dealt.WholeHanded g size id a) = Handed
 abbrev pub whole_as : OpenPart → ℕ → Verdict → Dealt
 whole_as g size (verdict.Queued place priority n) = dealt.WholeQueued g size place priority
 whole_as g size (verdict.Handed id a n) = dealt.WholeHanded g size id a
-whole_as g size (verdict.Returned fate) = dealt.Alone (verdict.Returned fate)
+whole_as g size (verdict.Returned fate) = dealt.Alone (verdict.Returned fate) 28
 
 abbrev pub way_of : OpenPart → Way
 way_of g = record { peer = g.slot.peer; source = g.source; destination = g.destination }
@@ -130,6 +130,11 @@ GrowsBy true r q g size d =
 
 abbrev pub GrowsTo : Records → Requests → OpenPart → ℕ → Dealt → Type 0
 GrowsTo r q g size d = GrowsBy (is_whole g) r q g size d
+
+-- a piece of a frame that goes on with no part
+abbrev pub DealsAlone : ℕ → List ℕ → Piece → PlainPiece → Dealt → Desk → Type 0
+DealsAlone peer frame p q v d =
+    (b : Book) (s : DomainState) (name : Option ℕ) → Shows s peer b d → coming_from s peer frame ≡ alone p.source p.destination q → IsDealt s name peer b frame d d v
 
 -- in each state with what the parts have, whatever names the frames have
 abbrev pub DealsWith : ℕ → List ℕ → Dealt → Desk → Desk → Type 0

@@ -87,10 +87,10 @@ pub data Step : Type 0 where
   looked_back : ℕ → ℕ → Step
   owed_put : ℕ → List ℕ → Step
   looked_ahead : ℕ → ℕ → Step
-  -- The oldest frame of a peer is taken: so many of the first bytes of this buffer. Its message, of this size, is last in the queue at a
-  -- place, with this priority; or the request with this id, which asks so, is complete with it
-  frame_queued : ℕ → Stored → ℕ → ℕ → ℕ → ℕ → Step
-  frame_handed : ℕ → Stored → ℕ → ℕ → RequestId → Ask → Step
+  -- The oldest frame of a peer is taken: so many of the first bytes of this buffer. Behind so many bytes of headers it has an item of this
+  -- size, which is last in the queue at a place, with this priority; or the request with this id, which asks so, is complete with it
+  frame_queued : ℕ → Stored → ℕ → ℕ → ℕ → ℕ → ℕ → Step
+  frame_handed : ℕ → Stored → ℕ → ℕ → ℕ → RequestId → Ask → Step
   -- it is taken in the buffer of this number, which is given back at once
   frame_returned : ℕ → ℕ → List ℕ → Step
   -- it is taken in this buffer, and so many of its bytes are those of a piece: this part of the peer begins with it, or the open one goes
@@ -131,8 +131,8 @@ abbrev pub book_after : Step → Book → Book
 book_after (best_dropped i s fs) b = without_frames b s None fs
 book_after (oldest_dropped i s fs) b = without_frames b s None fs
 book_after (message_ended place s fs) b = without_frames b s None fs
-book_after (frame_queued peer buffer len size i priority) b = with_queued b (slot_at peer buffer.number) (kept_in_buffer buffer 24 size)
-book_after (frame_handed peer buffer len size id a) b = with_queued b (slot_at peer buffer.number) (kept_in_buffer buffer 24 size)
+book_after (frame_queued peer buffer len headers size i priority) b = with_queued b (slot_at peer buffer.number) (kept_in_buffer buffer headers size)
+book_after (frame_handed peer buffer len headers size id a) b = with_queued b (slot_at peer buffer.number) (kept_in_buffer buffer headers size)
 book_after (part_begun o buffer len) b = with_queued b o.slot (kept_in_buffer buffer 28 o.size)
 book_after (part_grown o buffer len size) b = with_joined b o.slot (kept_in_buffer buffer 28 size)
 book_after (part_ended s fs) b = without_frames b s None fs
@@ -152,7 +152,7 @@ records_after (oldest_lent i id) r = with_last_lent (with_oldest_taken_at r i) i
 records_after (packet_begun i s id at) r = with_oldest_taken_at r i
 records_after (packet_ended place id) r = with_last_lent r id
 records_after (packet_released i id fs) r = without_lent_at r i
-records_after (frame_queued peer buffer len size i priority) r = with_waiting_at r i (waiting (slot_at peer buffer.number) priority)
+records_after (frame_queued peer buffer len headers size i priority) r = with_waiting_at r i (waiting (slot_at peer buffer.number) priority)
 records_after (part_begun o buffer len) r = with_part_open r o
 records_after (part_grown o buffer len size) r = with_part_open r o
 records_after (part_queued s i priority) r = with_waiting_at (without_part_of r s.peer) i (waiting s priority)
@@ -179,7 +179,7 @@ requests_after (packet_begun i s id at) q = with_last q id (ask.Packet at) (Some
 requests_after (packet_ended place id) q = without_at q place
 requests_after (request_ended place) q = without_at q place
 requests_after (message_ended place s fs) q = without_at q place
-requests_after (frame_handed peer buffer len size id a) q = with_complete q id (handed_by a (slot_at peer buffer.number))
+requests_after (frame_handed peer buffer len headers size id a) q = with_complete q id (handed_by a (slot_at peer buffer.number))
 requests_after (part_handed s id a) q = with_complete q id (handed_by a s)
 requests_after (frame_after s fs c) q = requests_after c q
 requests_after (name_told name address) q = with_all_complete q (waiters.Lookups name) (complete.Address address)
@@ -213,8 +213,8 @@ step_moves (frame_put peer frame) n = at_peer peer (sender (Sent frame) ∷ []) 
 step_moves (looked_back peer count) n = at_peer peer (sender (Looked count) ∷ []) n
 step_moves (owed_put peer frame) n = at_peer peer (sender (Sent frame) ∷ []) n
 step_moves (looked_ahead peer count) n = at_peer peer (receiver (receiving.Looked count) ∷ []) n
-step_moves (frame_queued peer buffer len size i priority) n = at_peer peer (receiver (Took buffer.number (take len buffer.bytes)) ∷ []) n
-step_moves (frame_handed peer buffer len size id a) n = at_peer peer (receiver (Took buffer.number (take len buffer.bytes)) ∷ []) n
+step_moves (frame_queued peer buffer len headers size i priority) n = at_peer peer (receiver (Took buffer.number (take len buffer.bytes)) ∷ []) n
+step_moves (frame_handed peer buffer len headers size id a) n = at_peer peer (receiver (Took buffer.number (take len buffer.bytes)) ∷ []) n
 step_moves (frame_returned peer number frame) n = at_peer peer (receiver (Took number frame) ∷ receiver (Gave number) ∷ []) n
 step_moves (part_begun o buffer len) n = at_peer o.slot.peer (receiver (Took buffer.number (take len buffer.bytes)) ∷ []) n
 step_moves (part_grown o buffer len size) n = at_peer o.slot.peer (receiver (Took buffer.number (take len buffer.bytes)) ∷ []) n

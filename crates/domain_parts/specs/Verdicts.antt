@@ -35,7 +35,6 @@ use Rattle.domain_parts.specs.declared.requests.Waiters.TheVariants as waiters
 use Rattle.domain_parts.specs.InBook.{channel_of, endpoints_in, priority_of, requests_in}
 use Rattle.domain_parts.specs.InRequests.{with_all_complete}
 use Rattle.domain_parts.specs.Peers.{reply_in}
-use Rattle.domain_parts.specs.PlacedFrames.{item_of}
 use Rattle.domain_parts.specs.Records.{Records, with_channel_at}
 
 -- what a frame that is taken may change beside its buffer: the endpoints, the requests, and the names and replies of its peer
@@ -190,12 +189,12 @@ pub record IsHeard (peer : ℕ) (its : Row) (fate : Fate) (names names' : Names)
 
 -- ---- letters
 
--- an item of these frames, and the one in a frame, whose content of this size lies behind 24 bytes of headers
+-- an item of these frames, and the one in a frame, whose content of this size lies behind so many bytes of headers
 abbrev pub item_with : List ℕ → ℕ → ℕ → ℕ → Option ℕ → List ℕ → Item
 item_with names peer source priority channel content = record { peer = peer; source = source; priority = priority; channel = channel; content = content; frames = names }
 
-abbrev pub framed_item : List ℕ → ℕ → List ℕ → ℕ → Item
-framed_item names peer frame size = item_with names peer (source_of frame) (priority_of frame) (channel_of frame) (take size (drop 24 frame))
+abbrev pub framed_item : List ℕ → ℕ → List ℕ → ℕ → ℕ → Item
+framed_item names peer frame headers size = item_with names peer (source_of frame) (priority_of frame) (channel_of frame) (take size (drop headers frame))
 
 -- letters that bring an item
 abbrev pub IsItem : PlainLetter → Type 0
@@ -256,23 +255,25 @@ connect_row s way number kind = first_row (connect_rows s way.peer way.source wa
 abbrev pub AreBytes : List ℕ → Type 0
 AreBytes xs = (i : ℕ) → slice_index xs i < 256
 
--- the item of a frame has this size and lies within it
-pub record Fits (frame : List ℕ) (size : ℕ) : Type 0 where
+-- the item of a frame has this size and lies within it, behind so many bytes of headers
+pub record Fits (frame : List ℕ) (headers size : ℕ) : Type 0 where
   pub short : size ≤ item_size
-  pub inside : 24 + size ≤ length frame
-  pub whole : (peer : ℕ) → framed_item (0 ∷ []) peer frame size ≡ item_of peer frame
+  pub behind : 24 ≤ headers
+  pub inside : headers + size ≤ length frame
 
-abbrev pub IsVerdict : DomainState → Option ℕ → ℕ → List ℕ → Verdict → Desk → Desk → Type 0
-IsVerdict s name peer frame (verdict.Queued place priority size) d d' = IsQueued s (row_from s peer name frame) (framed_item (named_so name ∷ []) peer frame size) place × Fits frame size × (priority_of frame ≡ priority) × (d' ≡ d)
-IsVerdict s name peer frame (verdict.Handed id a size) d d' = IsHanded s d.requests (row_from s peer name frame) (framed_item (named_so name ∷ []) peer frame size) id a × Fits frame size × (d' ≡ d)
-IsVerdict s name peer frame (verdict.Returned fate) d d' = IsReturned s peer (row_from s peer name frame) fate d d'
+abbrev pub IsVerdict : DomainState → Option ℕ → ℕ → List ℕ → ℕ → Verdict → Desk → Desk → Type 0
+IsVerdict s name peer frame headers (verdict.Queued place priority size) d d' =
+    IsQueued s (row_from s peer name frame) (framed_item (named_so name ∷ []) peer frame headers size) place × Fits frame headers size × (priority_of frame ≡ priority) × (d' ≡ d)
+IsVerdict s name peer frame headers (verdict.Handed id a size) d d' =
+    IsHanded s d.requests (row_from s peer name frame) (framed_item (named_so name ∷ []) peer frame headers size) id a × Fits frame headers size × (d' ≡ d)
+IsVerdict s name peer frame headers (verdict.Returned fate) d d' = IsReturned s peer (row_from s peer name frame) fate d d'
 
 -- ---- what is said of functions: in each state with what they have, whatever names the frames have
 
 -- and of each frame that says this
 abbrev pub Deals : ℕ → Reading → Verdict → Desk → Desk → Type 0
 Deals peer said v d d' = (frame : List ℕ) (b : Book) (s : DomainState) (name : Option ℕ) → AreBytes frame → said ≡ reading frame → Shows s peer b d
-    → IsVerdict s name peer frame v d d'
+    → IsVerdict s name peer frame 24 v d d'
 
 abbrev pub Judges : Way → PlainLetter → Verdict → (Names → Desk) → (Names → Desk) → Type 0
 Judges way l v d d' = (b : Book) (s : DomainState) (came : Came) (names : Names) → Shows s way.peer b (d names)

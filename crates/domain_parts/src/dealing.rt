@@ -8,7 +8,7 @@ ghost use Rattle.mc_base.specs.Reading.{brings, reading};
 ghost use Rattle.name_service.specs.Said.{reading_of};
 ghost use Rattle.domain_parts.specs.declared.parts.OpenPart.{OpenPart as Opened};
 ghost use Rattle.domain_parts.specs.declared.replies.Reply.{Reply};
-ghost use Rattle.domain_parts.specs.Dealt.{DealsWith, GrowsTo, word_of};
+ghost use Rattle.domain_parts.specs.Dealt.{DealsAlone, DealsWith, GrowsTo, word_of};
 ghost use Rattle.domain_parts.specs.Growing.{IsNoPiece, IsPiece, IsRead};
 ghost use Rattle.domain_parts.specs.InRequests.{AreReceives};
 ghost use Rattle.domain_parts.specs.Items.{BringsMessage};
@@ -26,6 +26,7 @@ use crate::dealing::items::judge_item;
 use crate::dealing::letters::act;
 use crate::endpoints::Endpoints;
 use crate::fates::fault_fate;
+use crate::messages::{CONTENT, PIECE};
 use crate::parts::{OpenPart, Piece, piece_of};
 use crate::replies::Replies;
 use crate::requests::oldest_receive;
@@ -68,8 +69,11 @@ impl Verdict {
 /// What a frame does with the open part of its peer, and what is to be done with it.
 #[derive(Clone, Copy)]
 pub enum Dealt {
-    /// The part ends, if one is open, and this is to be done with the frame.
-    Alone(Verdict),
+    /// The part ends, if one is open, and this is to be done with the frame, whose item lies behind so many bytes of headers.
+    Alone {
+        verdict: Verdict,
+        headers: u32,
+    },
     /// The part ends, if one is open, and this piece begins one.
     Begins(Piece),
     /// The part goes on with so many bytes of the frame, and is this one from then on.
@@ -99,7 +103,7 @@ impl Dealt {
         ensures { result ≡ word_of self.now }
     {
         match self {
-            Dealt::Alone(verdict) => verdict.fate(),
+            Dealt::Alone { verdict, .. } => verdict.fate(),
             Dealt::Begins(_) | Dealt::Grows { .. } => Fate::Part,
             Dealt::WholeQueued { .. } => Fate::Queued,
             Dealt::WholeHanded { .. } => Fate::Handed,
@@ -133,11 +137,14 @@ pub fn deal_with(
     let said = read_frame(frame);
     match piece_of(&said) {
         Some(piece) => deal_piece(endpoints, requests, peer, piece),
-        None => Dealt::Alone(deal(endpoints, requests, known, replies, peer, said)),
+        None => Dealt::Alone {
+            verdict: deal(endpoints, requests, known, replies, peer, said),
+            headers: CONTENT,
+        },
     }
 }
 
-/// Deals with a piece that a peer sent: it goes on with the peer's open part, begins one, or is stray.
+/// Deals with a piece that a peer sent, which goes on with the peer's open part or with none.
 fn deal_piece(endpoints: &Endpoints, requests: &RequestSet, peer: u8, piece: Piece) -> Dealt
     requires receives { AreReceives requests.now }
     requires small { (o : Opened) → part_open endpoints.now peer ≡ Some o → o.size + piece.size < 2 ^ 32 }
@@ -149,10 +156,32 @@ fn deal_piece(endpoints: &Endpoints, requests: &RequestSet, peer: u8, piece: Pie
             return grow(endpoints, requests, part.grown(&piece), piece.size);
         }
     }
-    if piece.begins() {
-        Dealt::Begins(piece)
-    } else {
-        Dealt::Alone(Verdict::Returned(Fate::Stray))
+    deal_first(endpoints, requests, peer, piece)
+}
+
+/// Deals with a piece that goes on with no part: it begins one, is a whole item itself, or is stray.
+fn deal_first(endpoints: &Endpoints, requests: &RequestSet, peer: u8, piece: Piece) -> Dealt
+    requires receives { AreReceives requests.now }
+    ensures { (frame : List ℕ) (q : PlainPiece) → brings piece.source piece.destination q ≡ reading frame → IsPiece piece q
+        → (names : Names) (replies : List Reply) → DealsAlone peer frame piece q result (beside endpoints.now requests.now replies names) }
+{
+    if !piece.begins() {
+        return Dealt::Alone {
+            verdict: Verdict::Returned(Fate::Stray),
+            headers: PIECE,
+        };
+    }
+    if !piece.is_whole() {
+        return Dealt::Begins(piece);
+    }
+    let way = Way {
+        peer,
+        source: piece.source,
+        destination: piece.destination,
+    };
+    Dealt::Alone {
+        verdict: judge_item(endpoints, requests, way, piece.carrier, piece.size),
+        headers: PIECE,
     }
 }
 
@@ -186,7 +215,10 @@ fn grow(endpoints: &Endpoints, requests: &RequestSet, part: OpenPart, size: u32)
             id,
             ask,
         },
-        Verdict::Returned(fate) => Dealt::Alone(Verdict::Returned(fate)),
+        Verdict::Returned(fate) => Dealt::Alone {
+            verdict: Verdict::Returned(fate),
+            headers: PIECE,
+        },
     }
 }
 

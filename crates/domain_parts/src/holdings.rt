@@ -1,7 +1,7 @@
 //! The inside of a domain as one value, whose methods make its steps.
 
 ghost use Rattle.std.specs.Prelude.{◌≡◌, ◌↔◌, ◌+◌, ◌<◌, ◌≤◌, [], ◌∷◌, Contains, IfSome, IsNone, Some, is_some, length, map, sum_by};
-ghost use Rattle.board_model.specs.State.{address_at, endpoint_at, free_to, lent_from, place_at, place_of_peer, queued_from};
+ghost use Rattle.board_model.specs.State.{address_at, endpoint_at, free_to, lent_from, place_at, place_of_peer, queued_from, size_to};
 ghost use Rattle.mc_base.specs.Frame.{made};
 ghost use Rattle.mc_base.specs.Letter.{FitsFrame, letter_text, saying_of};
 ghost use Rattle.board_model.specs.Answer.{address_of, has_channel};
@@ -141,6 +141,13 @@ impl<P: PeerLane> Holdings<P> {
             return 0;
         };
         self.peers[place].ends.free_len()
+    }
+
+    /// How many buffers the lane to a domain has: as many as the lane from it. It counts as 0 where the domain is no peer.
+    fn size_to(&self, number: u8) -> usize
+        ensures { result ≡ size_to (state_of self.now.parts) number }
+    {
+        self.book.size_of(number)
     }
 
     /// Notes the frame of a letter, from one address to another, and puts it to a peer.

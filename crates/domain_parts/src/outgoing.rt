@@ -3,7 +3,7 @@
 ghost use Rattle.std.specs.Prelude.{◌≡◌, ◌≤◌, ◌<◌, length};
 ghost use Rattle.std.specs.Int.{div_ceil};
 ghost use Rattle.mc_base.specs.Letter.{carried, in_part, piece, saying_of, whole};
-ghost use Rattle.mc_base.specs.Limits.{single_size, total_size};
+ghost use Rattle.mc_base.specs.Limits.{single_size, item_size};
 ghost use Rattle.domain_parts.specs.Pieces.{carrier_in};
 
 use crate::parts::Carrier;
@@ -46,8 +46,8 @@ impl<'a> Outgoing<'a> {
 
     /// Returns the part that carries these of its bytes, which begin at an offset.
     pub fn part(&self, offset: usize, bytes: &'a [u8]) -> Letter<'a>
-        requires short { length self.now.bytes.now ≤ total_size }
-        requires within { offset ≤ total_size }
+        requires short { length self.now.bytes.now ≤ item_size }
+        requires within { offset ≤ item_size }
         ensures { saying_of result ≡ in_part (piece (carrier_in self.now.carrier) (length self.now.bytes.now) offset bytes.now) }
     {
         let total = self.bytes.len() as u16;

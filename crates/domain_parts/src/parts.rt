@@ -1,6 +1,6 @@
 //! Messages and packets that come in several frames.
 
-ghost use Rattle.std.specs.Prelude.{◌≡◌, ◌+◌, ◌<◌, ◌^◌, ℕ, List, length};
+ghost use Rattle.std.specs.Prelude.{◌≡◌, ◌==◌, ◌+◌, ◌<◌, ◌^◌, ℕ, List, length};
 ghost use Rattle.mc_base.specs.Letter.{Piece as PlainPiece};
 ghost use Rattle.name_service.specs.Said.{reading_of};
 ghost use Rattle.board_model.specs.Parts.{begins, goes_on, same_carrier};
@@ -136,11 +136,18 @@ impl Carrier {
 }
 
 impl Piece {
-    /// Whether it begins a part where it continues none. None does yet.
+    /// Whether it begins a part where it continues none.
     pub fn begins(&self) -> bool
         ensures { (q : PlainPiece) → IsPiece self.now q → result ≡ begins q }
     {
-        false
+        self.offset == 0
+    }
+
+    /// Whether it has all bytes of its item.
+    pub fn is_whole(&self) -> bool
+        ensures { result ≡ (self.now.size == self.now.total) }
+    {
+        self.size == self.total
     }
 }
 

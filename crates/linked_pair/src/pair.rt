@@ -1,4 +1,5 @@
 ghost use Rattle.std.specs.Prelude.{◌≡◌, ◌≢◌, ◌≤◌, ◌+◌, ◌↔◌, ◌∷◌, [], IfOk, IsErrOf, OnErr, None, ℕ, drop, length};
+ghost use Rattle.mc_base.specs.Limits.{item_size};
 ghost use Rattle.lane_end.specs.Numbers.{IsLaneSize};
 ghost use Rattle.lane_end.specs.PlainReceiver.{Receives};
 ghost use Rattle.lane_end.specs.PlainSender.{Sends};
@@ -169,7 +170,7 @@ impl LinkedPair {
         }
     }
 
-    /// Sends a message of at most 488 bytes, as [`Domain::msg_send`].
+    /// Sends a message of at most 8,192 bytes, as [`Domain::msg_send`].
     pub fn msg_send(
         &mut self,
         which: Which,
@@ -261,7 +262,7 @@ impl LinkedPair {
         }
     }
 
-    /// Ends a request that is complete, as [`Domain::test`]. `out` has at least 488 bytes.
+    /// Ends a request that is complete, as [`Domain::test`]. `out` has at least 8,192 bytes.
     pub fn test(
         &mut self,
         which: Which,
@@ -271,7 +272,7 @@ impl LinkedPair {
     ) -> Result<Done, Refusal>
         requires entry_room { call_entries ≤ journal.old.entry_room }
         requires byte_room { call_bytes ≤ journal.old.byte_room }
-        requires out { 488 ≤ length out.old }
+        requires out { item_size ≤ length out.old }
         ensures call { CallsAt which 0 (test_of (place_of_id (domain_of which self.old).ids id)) self.old self.new journal.old.lines journal.new.lines (tested result out.new (packet_lent_as (domain_of which self.new))) None }
         ensures message { IfOk result (λ done. GivesTo done out.old out.new) }
         ensures lent { IfOk result (LendsBy (domain_of which self.old) (domain_of which self.new)) }

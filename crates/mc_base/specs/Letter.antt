@@ -2,7 +2,7 @@
 -- Source: the payload header of docs/FORMATS.md: magic, version, kind, argument (1 byte each), channel (4 bytes), and then the content.
 use Rattle.std.specs.Prelude.{◌≡◌, ℕ, ◌+◌, ◌*◌, ◌<◌, ◌≤◌, ◌^◌, List, [], ◌∷◌, ◌++◌, length, Option, Some, None}
 use Rattle.byteorder.specs.Endian.{little_bytes}
-use Rattle.mc_base.specs.Limits.{single_size, total_size, piece_size, last_priority}
+use Rattle.mc_base.specs.Limits.{single_size, item_size, piece_size, last_priority}
 use Rattle.mc_base.specs.declared.channel.Kind.{Kind}
 use Rattle.mc_base.specs.declared.channel.Kind.TheVariants.{Packet, Scalar}
 use Rattle.mc_base.specs.declared.channel.Reason.{Reason}
@@ -151,7 +151,7 @@ pub record HasPieceSpelling (p : Piece) : Type 0 where
   pub carries : IsCarrier p.carrier
   pub some : 0 < length p.content
   pub within : p.offset + length p.content ≤ p.total
-  pub most : p.total ≤ total_size
+  pub most : p.total ≤ item_size
 
 -- ---- what a payload says
 

@@ -37,11 +37,7 @@ longest_frame = 512
 
 -- the most bytes of a message or packet
 abbrev pub item_size : ℕ
-item_size = 488
-
--- the most bytes that an item has of which a frame carries a part
-abbrev pub total_size : ℕ
-total_size = 8192
+item_size = 8192
 
 -- the most bytes of one that a single frame carries, and of a part of one
 abbrev pub single_size : ℕ

@@ -7,7 +7,7 @@ use crate::limits::{
     MAX_ASKED, MAX_CHANNELS, MAX_DOMAINS, MAX_ENDPOINTS, MAX_ENDPOINTS_EVER, MAX_NODES,
     MAX_OWED_ANNOUNCEMENTS, MAX_OWED_REPLIES, MAX_POOL, MAX_REQUESTS, MAX_RING_SIZE,
     NAME_SERVICE_ADDRESS, NAME_SIZE, NAMES_KNOWN, NS_SIZE, PIECE_SIZE, POOL_BUFFER_SIZE,
-    SINGLE_SIZE, TOTAL_SIZE, TURN_FRAMES,
+    SINGLE_SIZE, TURN_FRAMES,
 };
 
 /// Each constant is the number that the definitions rest on.
@@ -18,7 +18,6 @@ pub fn limits_are_those_defined()
     ensures item { ITEM_SIZE ≡ limit.item_size }
     ensures single { SINGLE_SIZE ≡ limit.single_size }
     ensures piece { PIECE_SIZE ≡ limit.piece_size }
-    ensures total { TOTAL_SIZE ≡ limit.total_size }
     ensures frame_header { FRAME_HEADER_SIZE ≡ limit.frame_header_size }
     ensures letter_header { LETTER_HEADER_SIZE ≡ limit.letter_header_size }
     ensures announcement { NS_SIZE ≡ limit.announcement_size }

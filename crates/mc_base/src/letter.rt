@@ -3,7 +3,7 @@ use crate::{Bits, Kind, Priority, Reason};
 /// What a frame to an endpoint carries, by version 1 of the payload header, and parts of messages and packets by version 2.
 #[derive(Clone, Copy, Debug)]
 pub enum Letter<'a> {
-    /// A message of 0 to 488 bytes.
+    /// A whole message, of 0 to 488 bytes.
     Msg {
         priority: Priority,
         bytes: &'a [u8],
@@ -28,7 +28,7 @@ pub enum Letter<'a> {
     SendOpen {
         channel: u32,
     },
-    /// A packet of 0 to 488 bytes.
+    /// A whole packet, of 0 to 488 bytes.
     Packet {
         channel: u32,
         bytes: &'a [u8],
@@ -47,14 +47,14 @@ pub enum Letter<'a> {
     RecvClose {
         channel: u32,
     },
-    /// A part of a message of `total` bytes, of which `offset` come before these.
+    /// A part of a message of `total` bytes, of which `offset` come before these: 1 to 484 bytes.
     MsgPart {
         priority: Priority,
         total: u16,
         offset: u16,
         bytes: &'a [u8],
     },
-    /// A part of a packet of `total` bytes, of which `offset` come before these.
+    /// A part of a packet of `total` bytes, of which `offset` come before these: 1 to 484 bytes.
     PacketPart {
         channel: u32,
         total: u16,

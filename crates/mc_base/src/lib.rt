@@ -12,6 +12,7 @@ mod laws;
 mod letter;
 mod limits;
 mod name;
+mod pieces;
 mod priority;
 mod refusal;
 mod request;
@@ -28,9 +29,10 @@ pub use limits::{
     MAX_ASKED, MAX_CHANNELS, MAX_DOMAINS, MAX_ENDPOINTS, MAX_ENDPOINTS_EVER, MAX_NODES,
     MAX_OWED_ANNOUNCEMENTS, MAX_OWED_REPLIES, MAX_POOL, MAX_REQUESTS, MAX_RING_SIZE,
     NAME_SERVICE_ADDRESS, NAME_SIZE, NAMES_KNOWN, NS_SIZE, PIECE_SIZE, POOL_BUFFER_SIZE,
-    SINGLE_SIZE, TOTAL_SIZE, TURN_FRAMES,
+    SINGLE_SIZE, TURN_FRAMES,
 };
 pub use name::{EndName, Local};
+pub use pieces::frames_needed;
 pub use priority::Priority;
 pub use refusal::{BufInvalid, Full, NoMemory, Refusal, RequestLimit, SclSize};
 pub use request::{Done, Got, PacketId, RequestId, Slot};

@@ -8,16 +8,13 @@ pub const POOL_BUFFER_SIZE: usize = 512;
 pub const LONGEST_FRAME: usize = 512;
 
 /// How many bytes a message or a packet has at most.
-pub const ITEM_SIZE: usize = 488;
+pub const ITEM_SIZE: usize = 8192;
 
 /// How many bytes of a message or a packet a letter of one frame carries at most.
 pub const SINGLE_SIZE: usize = 488;
 
 /// How many bytes of a message or a packet a part of it carries at most.
 pub const PIECE_SIZE: usize = 484;
-
-/// How many bytes a message or a packet that goes in parts has at most.
-pub const TOTAL_SIZE: usize = 8192;
 
 /// How many bytes the header of an RPMsg frame has (`struct rpmsg_hdr`).
 pub const FRAME_HEADER_SIZE: usize = 16;

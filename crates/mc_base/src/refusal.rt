@@ -63,11 +63,11 @@ pub enum Refusal {
     AlreadyOpen,
     /// The channel is not open for this call.
     NotOpen,
-    /// A message of more than 488 bytes.
+    /// A message of more than 8,192 bytes, or one that needs more buffers than the lane to the peer has.
     MsgSize,
-    /// A packet of more than 488 bytes.
+    /// A packet of more than 8,192 bytes, or one that needs more buffers than the lane to the peer has.
     PktSize,
-    /// No buffer of the lane to the peer is free after the call's turn.
+    /// After the call's turn, fewer buffers of the lane to the peer are free than the call needs.
     NoBuffer,
     /// The queue is empty.
     Empty,
@@ -113,10 +113,12 @@ impl Refusal {
             Refusal::ChanClosed => "the channel is closed for this call",
             Refusal::AlreadyOpen => "this end of the channel is open already",
             Refusal::NotOpen => "the channel is not open for this call; open both ends first",
-            Refusal::MsgSize => "the message has more than 488 bytes; split it",
-            Refusal::PktSize => "the packet has more than 488 bytes; split it",
+            Refusal::MsgSize =>
+                "the message has more than 8,192 bytes or needs more buffers than the lane has; split it",
+            Refusal::PktSize =>
+                "the packet has more than 8,192 bytes or needs more buffers than the lane has; split it",
             Refusal::NoBuffer =>
-                "no buffer to the peer is free; try again after the peer has made a turn",
+                "too few buffers to the peer are free; try again after the peer has made a turn",
             Refusal::Empty => "the queue is empty; try again after a turn",
             Refusal::SclSize => "the front scalar has another size",
             Refusal::BufInvalid => "no lent packet has this id",

@@ -3,7 +3,7 @@ use crate::{Reason, Refusal};
 /// The size of a received message, and how many of its bytes the caller got.
 #[derive(Clone, Copy, Debug, PartialEq, Eq)]
 pub struct Got {
-    /// The size of the message in bytes, 0 to 488.
+    /// The size of the message in bytes, 0 to 8,192.
     pub size: u32,
     /// How many of its first bytes the caller got. It is less than `size` where the caller asked for fewer bytes.
     pub given: u32,
@@ -18,12 +18,12 @@ pub struct RequestId {
     pub serial: u64,
 }
 
-/// The id of a lent packet. A buffer may be lent again; the serials differ then.
+/// The id of a lent packet. Its buffer may be lent again; the serials differ then.
 #[derive(Clone, Copy, Debug, PartialEq, Eq)]
 pub struct PacketId {
     /// The number of the domain that sent the packet, 0 to 7.
     pub peer: u8,
-    /// The number of the buffer in the lane from that domain, 0 to 255.
+    /// The number of the buffer of the packet's first frame in the lane from that domain, 0 to 255.
     pub buffer: u16,
     /// The number of packets that were lent before, modulo 2^64.
     pub serial: u64,

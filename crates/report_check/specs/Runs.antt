@@ -1,6 +1,6 @@
 -- A domain on its way through its script, as the check of a report holds it.
 -- A line has fewer tries than 2^32, and so a wait turns, so that greater counts need not be told apart.
-use Rattle.std.specs.Prelude.{◌≡◌, ℕ, ◌+◌, ◌*◌, ◌^◌, ◌<◌, ◌≤◌, min, length, Bool, true, false, ◌||◌, List, [], map, Option, None, Some, option_map, if◌then◌else◌}
+use Rattle.std.specs.Prelude.{◌≡◌, ℕ, ◌+◌, ◌*◌, ◌^◌, ◌<◌, ◌≤◌, min, length, Bool, true, false, ◌||◌, List, [], map, Option, None, Some, option_map, if◌then◌else◌, ◌==◌}
 use Rattle.std.specs.List.{AllByRecursion}
 use Rattle.mc_base.specs.Letter.{bytes_of_bits}
 use Rattle.mc_base.specs.Limits.{longest_frame}
@@ -95,13 +95,12 @@ abbrev pub word_tried : PlainAnswer → Option Refusal
 word_tried (refuses word) = if is_tried_word word then Some word else None
 word_tried other = None
 
--- the lines of the frames that a call puts. Where there is one, tries are not told in a row
+-- the lines of the frames that a call puts. Where there are any, tries are not told in a row
 abbrev pub lines_put : List (ℕ × List ℕ) → List Line
 lines_put ps = map (λ (p : ℕ × List ℕ). put_line p.0 p.1) ps
 
-abbrev pub times_behind : Option Line → Option ℕ → Option ℕ
-times_behind None times = times
-times_behind (Some l) times = None
+abbrev pub times_behind : ℕ → Option ℕ → Option ℕ
+times_behind puts times = if puts == 0 then times else None
 
 -- ---- where parts lead to
 

@@ -42,7 +42,7 @@ struct Under {
 
 /// Finds the first part of the journal that stands first in a text, or `None` where the text begins with no line of a journal. `puts` has how many frames
 /// each line of the script puts where it succeeds, and `room` is as long as the longest line.
-pub fn next_part<'a>(text: &'a [u8], puts: &[u8], room: &mut [u8]) -> Option<NextPart<'a>>
+pub fn next_part<'a>(text: &'a [u8], puts: &[u64], room: &mut [u8]) -> Option<NextPart<'a>>
     requires { longest_line text.now ≤ length room.old }
     ensures { (peers : List ℕ) (script : List CallLine) → puts.now ≡ puts_of_script script → BeginsPart peers script text.now → FoundNext peers script text.now result }
 {
@@ -70,7 +70,7 @@ fn head_of(first: Outline) -> Head
 }
 
 /// Counts the lines of the part that begins with the line before a text.
-fn part_lines(first: Outline, text: &[u8], puts: &[u8], room: &mut [u8]) -> usize
+fn part_lines(first: Outline, text: &[u8], puts: &[u64], room: &mut [u8]) -> usize
     requires { longest_line text.now ≤ length room.old }
     ensures { result ≡ part_size puts.now first (lines_told text.now) }
 {
@@ -82,7 +82,7 @@ fn part_lines(first: Outline, text: &[u8], puts: &[u8], room: &mut [u8]) -> usiz
 }
 
 /// Counts the lines at the front of a text that are those of the turn before it.
-fn own_lines(text: &[u8], puts: &[u8], room: &mut [u8]) -> usize
+fn own_lines(text: &[u8], puts: &[u64], room: &mut [u8]) -> usize
     requires { longest_line text.now ≤ length room.old }
     ensures value { result ≡ own_count (puts_claimed puts.now (lines_told text.now)) (under_lines (lines_told text.now)) }
     ensures within { result ≤ length text.now }
@@ -93,7 +93,7 @@ fn own_lines(text: &[u8], puts: &[u8], room: &mut [u8]) -> usize
 }
 
 /// Counts the put lines before a line that are the line's.
-fn claimed_puts(line: Option<Outline>, puts: &[u8]) -> usize
+fn claimed_puts(line: Option<Outline>, puts: &[u64]) -> usize
     ensures { result ≡ puts_of_head puts.now line }
 {
     match line {

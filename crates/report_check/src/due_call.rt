@@ -1,6 +1,7 @@
 //! The lines of the next call that are due, where no turn is.
 
-ghost use Rattle.std.specs.Prelude.{◌≡◌, ◌∷◌, [], ◌++◌, ◌+◌, ◌<◌, ◌≤◌, ◌^◌, ℕ, Option, Some, IfOk, IfSome, length, option_map, option_to_list, take};
+ghost use Rattle.std.specs.Prelude.{◌≡◌, ◌∷◌, [], ◌++◌, ◌+◌, ◌<◌, ◌≤◌, ◌^◌, ℕ, Option, Some, IfOk, IfSome, length, option_map, option_to_list, slice_get, take};
+ghost use Rattle.mc_base.specs.Limits.{longest_frame};
 ghost use Rattle.board_model.specs.Answer.{puts, refusal as refusal_of};
 ghost use Rattle.board_model.specs.Step.{RunState, Waited, limit_of as limit_in, next_line as line_next};
 ghost use Rattle.mc_journal.specs.Entry.{line_of_entry, plain_answer};
@@ -25,37 +26,6 @@ fn has_ended(limit: u32, answer: Answer<'_>, wait: Waiting) -> bool
         || (wait.turns <= limit && !wait.done_before && is_done(answer))
 }
 
-/// The line of the frame that a call puts.
-fn put_entry<'o>(put: Option<(u8, usize)>, out: &'o [u8; 512]) -> Option<Entry<'o>>
-    requires { IfSome put (λ x. x.1 ≤ 512) }
-    ensures { option_to_list (option_map line_of_entry result) ≡ lines_put (option_to_list (option_map (λ x. (x.0, take x.1 out.now)) put)) }
-{
-    match put {
-        Some((peer, size)) => Some(Entry::Put {
-            peer,
-            frame: &out[..size],
-        }),
-        None => None,
-    }
-}
-
-#[tactic(auto, using(crate::proofs::CallLines::missed_more))]
-/// Compares the next lines with those of two entries, the first of which may be none.
-fn meets_both(
-    first: Option<Entry<'_>>,
-    second: Entry<'_>,
-    lines: &mut DueLines<'_>,
-) -> Result<bool, NoMemory>
-    ensures { IfOk result (λ is. Meets lines.old lines.new (option_to_list (option_map line_of_entry first.entry) ++ line_of_entry second.entry ∷ []) is) }
-{
-    if let Some(first) = first {
-        if !lines.meets(first)? {
-            return Ok(false);
-        }
-    }
-    lines.meets(second)
-}
-
 /// Compares the next line with that of an entry, if there is one.
 fn meets_one(entry: Option<Entry<'_>>, lines: &mut DueLines<'_>) -> Result<bool, NoMemory>
     ensures { IfOk result (λ is. Meets lines.old lines.new (option_to_list (option_map line_of_entry entry.entry)) is) }
@@ -66,14 +36,11 @@ fn meets_one(entry: Option<Entry<'_>>, lines: &mut DueLines<'_>) -> Result<bool,
     }
 }
 
-/// How many tries are told in a row behind this put.
-fn times_behind(put: Option<Entry<'_>>, times: Option<u64>) -> Option<u64>
-    ensures { result ≡ times_with (option_map line_of_entry put.entry) times }
+/// How many tries are told in a row behind so many puts.
+fn times_behind(puts: u64, times: Option<u64>) -> Option<u64>
+    ensures { result ≡ times_with puts times }
 {
-    match put {
-        Some(_) => None,
-        None => times,
-    }
+    if puts == 0 { times } else { None }
 }
 
 /// The place of the first line that is not the one due, where those that are due were met, or not.
@@ -88,20 +55,58 @@ pub(crate) fn place_after(lines: &DueLines<'_>, met: bool) -> Option<usize>
 }
 
 impl Run<'_> {
-    /// The frame that a call puts.
-    fn put(&self, next: &NextCall<'_>, out: &mut [u8; 512]) -> Option<(u8, usize)>
+    /// How many frames a call puts.
+    fn count_puts(&self, next: &NextCall<'_>) -> u64
+        requires { next.now.refusal ≡ refusal_of self.now.state.state next.now.line.now.node (plain_call next.now.call) }
+        ensures { result ≡ length (puts self.now.state.state next.now.line.now.node (plain_call next.now.call)) }
+    {
+        if next.refusal.is_some() {
+            return 0;
+        }
+        match self.state.state.puts_of_success(next.line.node, &next.call) {
+            Some((_, count)) => count,
+            None => 0,
+        }
+    }
+
+    /// Writes the n-th frame that a call puts, counted from 0, to the front of `out`, and returns its peer and its length.
+    fn put(&self, next: &NextCall<'_>, n: usize, out: &mut [u8; 512]) -> Option<(u8, usize)>
         requires refusal { next.now.refusal ≡ refusal_of self.now.state.state next.now.line.now.node (plain_call next.now.call) }
         requires fits { FitsFrame (plain_call next.now.call) }
-        ensures put { option_to_list (option_map (λ x. (x.0, take x.1 out.new)) result) ≡ puts self.now.state.state next.now.line.now.node (plain_call next.now.call) }
-        ensures fits { IfSome result (λ x. x.1 ≤ 512) }
+        ensures put { option_map (λ x. (x.0, take x.1 out.new)) result ≡ slice_get (puts self.now.state.state next.now.line.now.node (plain_call next.now.call)) n }
+        ensures fits { IfSome result (λ x. x.1 ≤ longest_frame) }
     {
         match next.refusal {
             Some(_) => None,
             None => self
                 .state
                 .state
-                .put_of_success(next.line.node, &next.call, out),
+                .put_of_success(next.line.node, &next.call, n, out),
         }
+    }
+
+    /// Compares the next lines with those of the frames that a call puts, which are so many.
+    fn meets_puts(
+        &self,
+        next: &NextCall<'_>,
+        count: u64,
+        lines: &mut DueLines<'_>,
+    ) -> Result<bool, NoMemory>
+        requires refusal { next.now.refusal ≡ refusal_of self.now.state.state next.now.line.now.node (plain_call next.now.call) }
+        requires fits { FitsFrame (plain_call next.now.call) }
+        requires count { count ≡ length (puts self.now.state.state next.now.line.now.node (plain_call next.now.call)) }
+        ensures { IfOk result (λ is. Meets lines.old lines.new (lines_put (puts self.now.state.state next.now.line.now.node (plain_call next.now.call))) is) }
+    {
+        let mut out = [0; 512];
+        for n in 0..count {
+            if let Some((peer, size)) = self.put(next, n as usize, &mut out) {
+                let frame = &out[..size];
+                if !lines.meets(Entry::Put { peer, frame })? {
+                    return Ok(false);
+                }
+            }
+        }
+        Ok(true)
     }
 
     /// The number of the next line.
@@ -152,7 +157,7 @@ impl Run<'_> {
         }
     }
 
-    /// Compares the next lines with those of a call that is due behind a turn: its put and its answer.
+    /// Compares the next lines with those of a call that is due behind a turn: its puts and its answer.
     fn meets_behind(
         &self,
         next: &NextCall<'_>,
@@ -167,11 +172,13 @@ impl Run<'_> {
         requires fits { FitsFrame (plain_call next.now.call) }
         ensures { IfOk result (λ is. Meets lines.old lines.new (told_by times (due_behind next.now.line.now r (Some []))) is) }
     {
-        let mut out = [0; 512];
+        let puts = self.count_puts(next);
+        if !self.meets_puts(next, puts, lines)? {
+            return Ok(false);
+        }
         let answer = self.answer(next);
-        let put = put_entry(self.put(next, &mut out), &out);
-        let entry = self.due_answer(next, answer, times_behind(put, times));
-        meets_both(put, entry, lines)
+        let entry = self.due_answer(next, answer, times_behind(puts, times));
+        lines.meets(entry)
     }
 
     /// Compares the next lines with those of the next line's call that are due.

@@ -76,7 +76,7 @@ pub(crate) fn walk_parts<'a>(
     run: &mut Run<'_>,
     alloc: Global,
     peers: &[u8],
-    puts: &[u8],
+    puts: &[u64],
     text: &'a [u8],
     room: &mut [u8],
 ) -> Result<PartsWalked<'a>, NoMemory>

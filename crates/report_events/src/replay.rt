@@ -17,7 +17,7 @@ pub struct Replay<'s> {
     labels: Labels<'s>,
     given: FrameNames,
     /// How many frames each line of its script puts where the call succeeds.
-    puts: Vec<u8>,
+    puts: Vec<u64>,
     /// The peers of the puts that were read last, which are those of a call where its line follows.
     open: Vec<u8>,
 }
@@ -107,7 +107,7 @@ impl<'s> Replay<'s> {
             return 0;
         }
         match self.puts.get(number as usize - 1) {
-            Some(count) => usize::from(*count),
+            Some(count) => *count as usize,
             None => 0,
         }
     }

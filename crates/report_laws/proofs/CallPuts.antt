@@ -1,12 +1,10 @@
 -- A call puts as many frames as its line and its answer say.
 use Rattle.std.proofs.Common.{◌≡◌, ℕ, false, List, [], ◌∷◌, length, length-append, map, Option, Some, None, refl, sym, ap, ◌∙◌, arith}
-use Rattle.std.specs.Prelude.{nat_lt, unwrap_or}
+use Rattle.std.specs.Prelude.{unwrap_or}
 use Rattle.std.specs.List.{flat_map}
-use Rattle.std.proofs.lemmas.Bool.{ltb-false}
 use Rattle.std.proofs.lemmas.List.{length-map}
-use Rattle.mc_base.specs.Letter.{PlainLetter, Carrier, of_message, of_packet, msg, packet, scalar}
-use Rattle.mc_base.specs.Limits.{item_size}
-use Rattle.mc_base.specs.Pieces.{item_spellings, spellings}
+use Rattle.mc_base.specs.Letter.{PlainLetter, of_message, of_packet, msg, packet, scalar}
+use Rattle.mc_base.specs.Pieces.{frames_of_size, spellings}
 use Rattle.mc_base.specs.declared.channel.Kind.TheVariants.{Packet, Scalar}
 use Rattle.mc_base.specs.declared.channel.Side.TheVariants.{Sender, Receiver}
 use Rattle.mc_base.specs.declared.refusal.Refusal.{Refusal}
@@ -22,43 +20,39 @@ use Rattle.board_model.specs.Labels.{Labels, call_of}
 use Rattle.board_model.specs.Unjoined.{frames_put, puts_by}
 use Rattle.board_model.proofs.MessageAlls.{none-passes}
 use Rattle.board_model.proofs.RefusedCalls.{refused-is}
-use Rattle.board_model.proofs.WholeFrames.{item-alone}
+use Rattle.mc_base.proofs.PieceCounts.{item-frames}
 use Rattle.report_text.specs.Outlines.{is_refusal}
 
--- a letter with one payload is put in one frame
-post-one : (x : Post) → length (spellings x.letter) ≡ 1 → length (flat_map puts_of (x ∷ [])) ≡ 1
-post-one x one = length-append (map (put_as x) (spellings x.letter)) [] ∙ omega (arith, length-map (spellings x.letter) (put_as x), one)
+-- a letter is put in as many frames as it has payloads
+post-many : (x : Post) (n : ℕ) → length (spellings x.letter) ≡ n → length (flat_map puts_of (x ∷ [])) ≡ n
+post-many x n many = length-append (map (put_as x) (spellings x.letter)) [] ∙ omega (arith, length-map (spellings x.letter) (put_as x), many)
 
-item-one : (k : Carrier) (bytes : List ℕ) → nat_lt item_size (length bytes) ≡ false → length (item_spellings k bytes) ≡ 1
-item-one k bytes fits = ap length (item-alone k bytes (ltb-false item_size (length bytes) fits))
-
--- a call that is not refused for want of a channel has one, and puts one such letter on it
-over-one : (call : EndCall) (o : Option Endpoint) (letter : ℕ → PlainLetter) → ((number : ℕ) → length (spellings (letter number)) ≡ 1) → end_holds call (channel_in o) NotConnected ≡ false → length (flat_map puts_of (over_channel o (channel_in o) letter)) ≡ 1
-over-one call None letter one connected = absurd cc
-over-one call (Some e) letter one connected = go e.channel connected
+-- a call that is not refused because it lacks a channel has one, and puts one such letter on it
+over-many : (call : EndCall) (o : Option Endpoint) (letter : ℕ → PlainLetter) (n : ℕ) → ((number : ℕ) → length (spellings (letter number)) ≡ n) → end_holds call (channel_in o) NotConnected ≡ false → length (flat_map puts_of (over_channel o (channel_in o) letter)) ≡ n
+over-many call None letter n many connected = absurd cc
+over-many call (Some e) letter n many connected = go e.channel connected
   where
-    go : (c : Option ChannelEnd) → end_holds call c NotConnected ≡ false → length (flat_map puts_of (over_channel (Some e) c letter)) ≡ 1
+    go : (c : Option ChannelEnd) → end_holds call c NotConnected ≡ false → length (flat_map puts_of (over_channel (Some e) c letter)) ≡ n
     go None connected = absurd cc
-    go (Some c) connected = post-one (post c.peer e.address c.peer_address (letter c.number)) (one c.number)
+    go (Some c) connected = post-many (post c.peer e.address c.peer_address (letter c.number)) n (many c.number)
 
 module _ (labels : Labels) (s : DomainState) (node : ℕ) where
   success-many : (c : Call) → refusal s node (call_of labels s c) ≡ None → length (success_puts s node (call_of labels s c)) ≡ frames_put c
   success-many (OpenSend port kind) done =
-      over-one (opens Sender kind) (live_at s (local node port)) (opening_letter Sender) (λ number. refl) (none-passes (holds s node (open_at port Sender kind)) (words_of (open_at port Sender kind)) done).1.0
+      over-many (opens Sender kind) (live_at s (local node port)) (opening_letter Sender) 1 (λ number. refl) (none-passes (holds s node (open_at port Sender kind)) (words_of (open_at port Sender kind)) done).1.0
   success-many (OpenRecv port kind) done =
-      over-one (opens Receiver kind) (live_at s (local node port)) (opening_letter Receiver) (λ number. refl) (none-passes (holds s node (open_at port Receiver kind)) (words_of (open_at port Receiver kind)) done).1.0
+      over-many (opens Receiver kind) (live_at s (local node port)) (opening_letter Receiver) 1 (λ number. refl) (none-passes (holds s node (open_at port Receiver kind)) (words_of (open_at port Receiver kind)) done).1.0
   success-many (PktSend port bytes) done =
-      let none = none-passes (holds s node (packet_from port bytes)) (words_of (packet_from port bytes)) done in
-      over-one (sends Packet) (live_at s (local node port)) (λ number. packet number bytes) (λ number. item-one (of_packet number) bytes none.1.1.1.1.1.1.0) none.1.0
+      over-many (sends Packet) (live_at s (local node port)) (λ number. packet number bytes) (frames_of_size (length bytes)) (λ number. item-frames (of_packet number) bytes)
+      (none-passes (holds s node (packet_from port bytes)) (words_of (packet_from port bytes)) done).1.0
   success-many (SclSend port bits value) done =
-      over-one (sends Scalar) (live_at s (local node port)) (λ number. scalar number bits value) (λ number. refl) (none-passes (holds s node (scalar_from port bits value)) (words_of (scalar_from port bits value)) done).1.0
+      over-many (sends Scalar) (live_at s (local node port)) (λ number. scalar number bits value) 1 (λ number. refl) (none-passes (holds s node (scalar_from port bits value)) (words_of (scalar_from port bits value)) done).1.0
   success-many (CloseSend port) done =
-      over-one (closes Sender) (live_at s (local node port)) (closing_letter Sender) (λ number. refl) (none-passes (holds s node (close_at port Sender)) (words_of (close_at port Sender)) done).1.0
+      over-many (closes Sender) (live_at s (local node port)) (closing_letter Sender) 1 (λ number. refl) (none-passes (holds s node (close_at port Sender)) (words_of (close_at port Sender)) done).1.0
   success-many (CloseRecv port) done =
-      over-one (closes Receiver) (live_at s (local node port)) (closing_letter Receiver) (λ number. refl) (none-passes (holds s node (close_at port Receiver)) (words_of (close_at port Receiver)) done).1.0
+      over-many (closes Receiver) (live_at s (local node port)) (closing_letter Receiver) 1 (λ number. refl) (none-passes (holds s node (close_at port Receiver)) (words_of (close_at port Receiver)) done).1.0
   success-many (MsgSend port to priority bytes) done =
-      let none = none-passes (holds s node (send_from port to priority bytes)) (words_of (send_from port to priority bytes)) done in
-      post-one (post to.domain (unwrap_or (address_at s (local node port)) 0) (unwrap_or (address_of s to) 0) (msg priority bytes)) (item-one (of_message priority) bytes none.1.1.1.0)
+      post-many (post to.domain (unwrap_or (address_at s (local node port)) 0) (unwrap_or (address_of s to) 0) (msg priority bytes)) (frames_of_size (length bytes)) (item-frames (of_message priority) bytes)
   success-many (Connect port to kind) done = refl
   success-many (Raw domain bytes) done = refl
   success-many other done = refl

@@ -6,6 +6,7 @@ pub mod Comings
 pub mod VerdictsDone
 pub mod Counted
 pub mod FramesFor
+pub mod PutFrames
 pub mod Removed
 -- Lemmas over plain lists.
 pub mod OwnAddresses

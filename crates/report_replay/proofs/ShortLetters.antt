@@ -3,7 +3,7 @@ use Rattle.std.proofs.Common.{◌≡◌, ℕ, ◌+◌, ◌-◌, ◌≤◌, Bool,
 use Rattle.std.specs.Prelude.{◌==◌, nat_lt, nat_le}
 use Rattle.std.specs.List.{AllByRecursion}
 use Rattle.std.proofs.lemmas.Bool.{cond_both, leb-true, eqb-true}
-use Rattle.mc_base.specs.Limits.{single_size, total_size, name_service_address}
+use Rattle.mc_base.specs.Limits.{single_size, item_size, name_service_address}
 use Rattle.mc_base.specs.FaultRow.{FaultRow, first, first_fault, widened}
 use Rattle.mc_base.specs.Frame.{destination_of, payload_of, source_of}
 use Rattle.mc_base.specs.Fault.{fault, faults}
@@ -67,10 +67,10 @@ piece_short f fits = bound (go (1 == f.kind) (7 == f.kind) fits)
     bound : a_part f ≡ true → length (drop 4 f.content) ≤ most_bytes
     bound e =
         let a = nat_le (offset_in f + (length f.content - 4)) (total_in f) in
-        let b = nat_le (total_in f) total_size in
+        let b = nat_le (total_in f) item_size in
         let within = and-right (nat_lt 4 (length f.content)) (a && b) e in
         let one = leb-true (offset_in f + (length f.content - 4)) (total_in f) (and-left a b within) in
-        let other = leb-true (total_in f) total_size (and-right a b within) in
+        let other = leb-true (total_in f) item_size (and-right a b within) in
         omega (arith, length-drop 4 f.content, one, other)
 
 -- what any frame says

@@ -1,22 +1,19 @@
 -- A frame that is taken leaves all but the part of its peer as it was, so that its row is that of the state before.
-use Rattle.std.proofs.Common.{◌≡◌, ℕ, ◌<◌, Bool, true, false, cond, List, [], ◌∷◌, ◌++◌, map, Option, None, Some, append-nil, append_assoc, refl, sym, ap, subst, ◌∙◌, Result, Ok, Err, OnOk, IfOk}
-use Rattle.std.specs.Prelude.{◌-◌, ◌==◌, filter, find, is_some, length, nat_le, not}
-use Rattle.mc_base.specs.Letter.{PlainLetter, Piece, msg, connect, accept, reject, recv_open, send_open, packet, scalar, send_close, recv_close}
+use Rattle.std.proofs.Common.{◌≡◌, ℕ, Bool, true, false, cond, List, [], ◌∷◌, ◌++◌, Option, None, Some, append-nil, append_assoc, refl, sym, ap, ◌∙◌, Result, Ok, Err, OnOk}
+use Rattle.std.specs.Prelude.{◌==◌, find, is_some, nat_le}
+use Rattle.mc_base.specs.Letter.{PlainLetter, msg, connect, accept, reject, recv_open, send_open, packet, scalar, send_close, recv_close}
 use Rattle.mc_base.specs.Limits.{reply_limit}
 use Rattle.mc_base.specs.FullName.{endpoint_named}
 use Rattle.mc_base.specs.Reading.{Reading, is_faulty, announces, says, brings}
 use Rattle.mc_base.specs.declared.channel.Kind.{Kind}
 use Rattle.mc_base.specs.declared.channel.Reason.TheVariants as reason
-use Rattle.mc_base.specs.declared.fate.Fate.{Fate}
 use Rattle.mc_base.specs.declared.fate.Fate.TheVariants as fate
-use Rattle.board_model.specs.Change.{at_peer, changed, frame_taken, held_after, held_as}
-use Rattle.board_model.specs.Parts.{Came, Coming, came_by, coming_so, held_by, held_if, names_before, names_ended, named_so}
-use Rattle.board_model.specs.Returns.{given_at_once}
-use Rattle.board_model.specs.State.{DomainState, Endpoint, HeldFrame, Part, Peer, endpoint_of, held_of, holds_from, is_numbered, peer_at}
+use Rattle.board_model.specs.Change.{at_peer, changed, frame_taken}
+use Rattle.board_model.specs.Parts.{Came}
+use Rattle.board_model.specs.State.{DomainState, Endpoint, Part, Peer, endpoint_of, is_numbered, peer_at}
 use Rattle.board_model.specs.TakenFrames.{accepting, connect_rows, first_row, is_busy, last_row, letter_rows, name_rows, names_of, rejecting, replies_to, row, row_of}
-use Rattle.report_replay.specs.Dealt.{AddsFor, Deals, shown_less}
-use Rattle.report_replay.specs.Ends.{came_in}
-use Rattle.report_replay.specs.Naming.{AddsBy, names_for}
+use Rattle.report_replay.specs.Dealt.{AddsFor, shown_less}
+use Rattle.report_replay.specs.Naming.{names_for}
 
 -- ---- peers
 

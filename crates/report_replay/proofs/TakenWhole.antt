@@ -1,5 +1,5 @@
 -- A frame that is taken, once it is read with the open part of its peer: what is done with it is what the definitions say.
-use Rattle.std.proofs.Common.{◌≡◌, ℕ, Bool, true, false, cond, List, [], ◌∷◌, ◌++◌, map, Option, None, Some, append-nil, refl, sym, ap, subst, ◌∙◌, Result, Ok, Err, OnOk, IfOk}
+use Rattle.std.proofs.Common.{◌≡◌, ℕ, Bool, true, List, [], ◌∷◌, ◌++◌, map, Option, None, Some, append-nil, sym, ap, subst, ◌∙◌, Result, Ok, Err, IfOk}
 use Rattle.std.specs.Prelude.{filter, is_none, not}
 use Rattle.mc_base.specs.Reading.{Reading, brings, reading}
 use Rattle.mc_base.specs.declared.fate.Fate.{Fate}

@@ -1,5 +1,5 @@
 -- What is done by a verdict, as what is done with what a frame says.
-use Rattle.std.proofs.Common.{◌≡◌, ℕ, Bool, true, false, cond, List, [], ◌∷◌, refl, sym, ap, subst, ◌∙◌, Result, Ok, Err, OnOk, IfOk}
+use Rattle.std.proofs.Common.{◌≡◌, ℕ, Bool, true, false, cond, List, [], refl, sym, ap, subst, ◌∙◌, Result, Ok, Err, OnOk, IfOk}
 use Rattle.mc_base.specs.Reading.{Reading}
 use Rattle.mc_base.specs.declared.fate.Fate.{Fate}
 use Rattle.board_model.specs.Change.{changed, changed_all}

@@ -1,11 +1,10 @@
 -- What a frame says together with the open part of its peer, as the replay keeps it.
 -- Source: the definitions of `board_model`, `Parts`.
 use Rattle.std.specs.Prelude.{◌≡◌, ℕ, ◌≤◌, Bool, false, length, Option, Some, None}
-use Rattle.mc_base.specs.Letter.{Piece as PlainPiece, carried, piece, piece_in, plain_letter}
+use Rattle.mc_base.specs.Letter.{Piece as PlainPiece, carried, piece}
 use Rattle.mc_base.specs.Reading.{Reading, brings, says}
-use Rattle.mc_base.specs.declared.letter.Letter.{Letter}
 use Rattle.name_service.specs.Said.{reading_of}
-use Rattle.board_model.specs.Parts.{Coming, coming_so}
+use Rattle.board_model.specs.Parts.{Coming, coming_so, grown, piece_coming}
 use Rattle.board_model.specs.State.{Part}
 use Rattle.report_replay.specs.declared.part.Piece.{Piece}
 use Rattle.report_replay.specs.declared.part.Says.{Says}
@@ -28,6 +27,11 @@ Brings None r = IsNoPiece r
 Brings (Some p) r = r ≡ brings p.source p.destination (piece_of p)
 
 -- ---- with the open part
+
+-- the part that a piece is of, and whether it was open. A piece that is of none is stray
+abbrev pub IsPartOf : Option Part → Piece → Option (Part × Bool) → Type 0
+IsPartOf before q None = piece_coming before q.source q.destination (piece_of q) ≡ coming_so (brings q.source q.destination (piece_of q)) None false
+IsPartOf before q (Some x) = piece_coming before q.source q.destination (piece_of q) ≡ grown x.1 x.0 (piece_of q)
 
 -- a piece, of the part that is open after it
 abbrev pub IsHeld : Coming → Type 0

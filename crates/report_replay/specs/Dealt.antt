@@ -14,10 +14,6 @@ use Rattle.report_replay.specs.Naming.{AddsBy}
 abbrev pub AddsFor : ℕ → List ℕ → List (List ℕ) → List (List ℕ) → Type 0
 AddsFor peer names old new = AddsBy (λ p. if peer == p then names else []) old new
 
--- this part of a peer is open
-abbrev pub with_part : Option Part → Peer → Peer
-with_part part p = record p { part = part }
-
 -- one of the shown frames of a peer is taken, and this part is open after it
 abbrev pub shown_less : Option Part → Peer → Peer
 shown_less part p = record p { shown = p.shown - 1; part = part }

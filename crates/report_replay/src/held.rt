@@ -2,14 +2,11 @@
 
 ghost use Rattle.std.specs.Prelude.{◌≡◌, ◌+◌, ◌∷◌, ◌++◌, [], IfOk, OnOk, Some, filter, length, map, min, not};
 ghost use Rattle.std.specs.List.{flat_map};
-ghost use Rattle.board_model.specs.Change.{at_peer, held_as};
+ghost use Rattle.board_model.specs.Change.{held_as};
 ghost use Rattle.board_model.specs.State.{frames_from, holds_from, item_in, queued_from, lent_from, held_from, held_of};
-ghost use Rattle.report_replay.specs.Dealt.{with_part};
 ghost use Rattle.report_replay.specs.Replayed.{greatest};
 
 use crate::endpoint::Endpoint;
-use crate::part::Part;
-use crate::peer::Peer;
 use crate::request::{LentPacket, Request};
 use crate::state::State;
 use mc_base::NoMemory;
@@ -53,27 +50,6 @@ impl State {
         self.queued_from(peer).saturating_add(self.lent_from(peer))
     }
 
-    /// Opens a part of a peer, which frames of these names brought: a replay may begin with a state in which parts are open.
-    ///
-    /// # Errors
-    ///
-    /// `NoMemory` where a name cannot be stored.
-    pub fn open_part(&mut self, peer: u8, part: Part, names: &[u32]) -> Result<(), NoMemory>
-        ensures { OnOk result (self.new ≡ record self.old { peers = at_peer peer (with_part (Some part)) self.old.peers; held = self.old.held ++ map (held_as peer) names.now }) }
-    {
-        self.set_part(peer, part);
-        push_held(&mut self.held, peer, names)
-    }
-
-    /// Sets the open part of a peer.
-    fn set_part(&mut self, peer: u8, part: Part)
-        ensures { self.new ≡ record self.old { peers = at_peer peer (with_part (Some part)) self.old.peers } }
-    {
-        if let Some(place) = self.place_of_peer(peer) {
-            self.peers[place].set_part(part);
-        }
-    }
-
     /// Takes the frames of a peer's open part out of those that are held, and returns their names.
     pub(crate) fn take_held(&mut self, alloc: Global, peer: u8) -> Result<Vec<u32>, NoMemory>
         ensures names { IfOk result (λ names. names.items ≡ held_of self.old peer) }
@@ -90,15 +66,6 @@ impl State {
     {
         push_held(&mut self.held, peer, earlier)?;
         push_held(&mut self.held, peer, &[last])
-    }
-}
-
-impl Peer {
-    /// Sets its open part.
-    fn set_part(&mut self, part: Part)
-        ensures { self.new ≡ with_part (Some part) self.old }
-    {
-        self.part = Some(part);
     }
 }
 

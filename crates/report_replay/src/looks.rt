@@ -1,7 +1,7 @@
 //! Looks at the lanes to and from a peer, and the owed frames that are put.
 
 ghost use Rattle.std.specs.Prelude.{◌≡◌, ◌-◌, ◌+◌, ◌<◌, ◌^◌, List, ℕ, Some, find, min, option_map};
-ghost use Rattle.board_model.specs.State.{Peer, is_numbered, peer_of, free_to};
+ghost use Rattle.board_model.specs.State.{Peer, is_numbered, peer_of, free_to, size_to};
 ghost use Rattle.board_model.specs.Deeds.{after_deed, looks_back, looks_ahead, puts_owed};
 ghost use Rattle.report_replay.specs.Replayed.{shown_by};
 
@@ -22,6 +22,16 @@ impl State {
     {
         match self.peer_numbered(peer) {
             Some(p) => p.free,
+            None => 0,
+        }
+    }
+
+    /// All buffers of the lane to a peer, and 0 where there is no such peer.
+    pub(crate) fn size_to(&self, peer: u8) -> u32
+        ensures { result ≡ size_to self.now peer }
+    {
+        match self.peer_numbered(peer) {
+            Some(p) => p.size,
             None => 0,
         }
     }

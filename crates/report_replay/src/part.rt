@@ -4,13 +4,14 @@ ghost use Rattle.std.specs.Prelude.{◌≡◌, ◌==◌, ◌++◌, IfOk, OnOk, f
 ghost use Rattle.mc_base.specs.Letter.{carried, plain_letter, saying_of, whole};
 ghost use Rattle.mc_base.specs.Reading.{says_so};
 ghost use Rattle.name_service.specs.Said.{reading_of};
-ghost use Rattle.board_model.specs.Parts.{coming as coming_with, goes_on as goes_on_so, same_carrier};
-ghost use Rattle.report_replay.specs.Coming.{Brings, SaysSo, piece_of};
+ghost use Rattle.board_model.specs.Parts.{begins, begun, coming as coming_with, goes_on as goes_on_so, same_carrier};
+ghost use Rattle.report_replay.specs.Coming.{Brings, IsPartOf, SaysSo, piece_of};
 ghost use Rattle.report_replay.specs.declared.part.Says.TheVariants.{Alone};
 ghost use Rattle.report_replay.specs.Views.{carrier_of};
 
 use mc_base::{Letter, NoMemory, Priority};
 use name_service::Said;
+use std::alloc::Global;
 use std::marker::Model;
 
 /// What carries a message or a packet in parts: a message of this priority, or a packet of this channel.
@@ -69,8 +70,14 @@ pub(crate) struct Coming<'a> {
     pub(crate) joins: bool,
 }
 
-/// Reads a frame with the open part of its peer, which then grows, is whole, or ends. A piece that goes on with no part begins none.
+/// Reads a frame with the open part of its peer, which then grows, is whole, or ends. A piece that goes on with no part begins one, if it
+/// has the first bytes.
+///
+/// # Errors
+///
+/// `NoMemory` where the bytes of a part cannot be stored.
 pub(crate) fn read_with<'a>(
+    alloc: Global,
     before: &mut Option<Part>,
     said: Said<'a>,
 ) -> Result<Coming<'a>, NoMemory>
@@ -82,27 +89,24 @@ pub(crate) fn read_with<'a>(
     let Some(piece) = piece_said(&said) else {
         return Ok(alone(said));
     };
-    let Some(mut part) = part else {
+    let Some((mut part, joins)) = piece.part(alloc, part) else {
         return Ok(alone(said));
     };
-    if !part.goes_on(&piece) {
-        return Ok(alone(said));
-    }
     part.grow(piece.bytes)?;
     if part.is_whole() {
         return Ok(Coming {
             says: Says::Whole(part),
-            joins: true,
+            joins,
         });
     }
     *before = Some(part);
     Ok(Coming {
         says: Says::Held,
-        joins: true,
+        joins,
     })
 }
 
-/// A frame that goes on with no part.
+/// A frame that goes on with no part and begins none.
 fn alone(said: Said<'_>) -> Coming<'_>
     ensures says { result.says ≡ Alone said.entry }
     ensures joins { result.joins ≡ false }
@@ -167,6 +171,44 @@ fn piece_of_letter<'a>(source: u32, destination: u32, letter: &Letter<'a>) -> Op
     }
 }
 
+impl Piece<'_> {
+    #[tactic(auto, unfolding(board_model::specs::Parts::begins))]
+    /// Whether a part begins with it.
+    fn begins(&self) -> bool
+        ensures { result ≡ begins (piece_of self.now) }
+    {
+        self.offset == 0
+    }
+
+    /// The part that it is of, and whether that was open: the open one, if it goes on with it, or one that it begins.
+    fn part(&self, alloc: Global, before: Option<Part>) -> Option<(Part, bool)>
+        ensures { IsPartOf before self.now result }
+    {
+        if let Some(part) = before {
+            if part.goes_on(self) {
+                return Some((part, true));
+            }
+        }
+        if self.begins() {
+            return Some((self.begun(alloc), false));
+        }
+        None
+    }
+
+    /// The part that begins with it, of which no bytes came yet.
+    fn begun(&self, alloc: Global) -> Part
+        ensures { result ≡ begun self.now.source self.now.destination (piece_of self.now) }
+    {
+        Part {
+            source: self.source,
+            destination: self.destination,
+            carrier: self.carrier,
+            total: self.total,
+            content: Vec::new(alloc),
+        }
+    }
+}
+
 impl Carrier {
     /// Whether two carry bytes of one message or packet.
     fn is_same(&self, other: &Carrier) -> bool
@@ -182,25 +224,6 @@ impl Carrier {
 }
 
 impl Part {
-    /// A message or packet from one address to another, of which these first bytes came.
-    pub fn new(
-        source: u32,
-        destination: u32,
-        carrier: Carrier,
-        total: u16,
-        content: Vec<u8>,
-    ) -> Part
-        ensures { result ≡ record { source = source; destination = destination; carrier = carrier_of carrier; total = total; content = content.items } }
-    {
-        Part {
-            source,
-            destination,
-            carrier,
-            total,
-            content,
-        }
-    }
-
     /// Whether a piece goes on with it.
     fn goes_on(&self, piece: &Piece<'_>) -> bool
         ensures { result ≡ goes_on_so self.now piece.now.source piece.now.destination (piece_of piece.now) }

@@ -40,7 +40,7 @@ impl State {
         ensures given { IfOk result (λ word. AddsFor peer (given_by_frame self.old peer name frame.now word) given.old given.new) }
     {
         let name = name.unwrap_or(0);
-        let coming = self.read_on(peer, read_frame(frame))?;
+        let coming = self.read_on(alloc, peer, read_frame(frame))?;
         let earlier = self.end_part(alloc, peer, coming.joins, given)?;
         match coming.says {
             Says::Held => {

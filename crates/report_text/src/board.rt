@@ -9,7 +9,7 @@ ghost use Rattle.report_text.specs.Ranks.{domain_rank as rank_of_domain, neighbo
 ghost use Rattle.report_text.specs.Texts.{neighbour_of, neighbours_of};
 
 use board_model::{Call, CallLine, DomainLine, LinkLine, Scenario};
-use mc_base::NoMemory;
+use mc_base::{NoMemory, frames_needed};
 use std::alloc::Global;
 
 /// A domain to which another has a lane, and the buffers of the lane.
@@ -148,15 +148,16 @@ pub fn numbers(alloc: Global, found: &[Numbered]) -> Result<Vec<u8>, NoMemory>
 }
 
 /// Counts the frames that a call puts where it succeeds.
-fn frames_put(call: &Call) -> u8
+fn frames_put(call: &Call) -> u64
     ensures { result ≡ puts_on_success call.now }
 {
     match call {
-        Call::MsgSend { .. }
-        | Call::Connect { .. }
+        Call::MsgSend { bytes, .. } | Call::PktSend { bytes, .. } => {
+            frames_needed(bytes.as_slice().len())
+        }
+        Call::Connect { .. }
         | Call::OpenSend { .. }
         | Call::OpenRecv { .. }
-        | Call::PktSend { .. }
         | Call::SclSend { .. }
         | Call::CloseSend { .. }
         | Call::CloseRecv { .. }
@@ -180,7 +181,7 @@ fn frames_put(call: &Call) -> u8
 }
 
 /// Counts the frames that each line of a domain's script puts where it succeeds.
-pub fn script_puts(alloc: Global, scenario: &Scenario, domain: u8) -> Result<Vec<u8>, NoMemory>
+pub fn script_puts(alloc: Global, scenario: &Scenario, domain: u8) -> Result<Vec<u64>, NoMemory>
     ensures { IfOk result (λ v. v.items ≡ puts_of_script (script scenario.now domain)) }
 {
     let mut puts = Vec::new(alloc);

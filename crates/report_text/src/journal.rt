@@ -21,7 +21,7 @@ fn is_turn(line: Outline) -> bool
     matches!(line, Outline::Turn)
 }
 
-fn puts_numbered(puts: &[u8], number: u32) -> usize
+fn puts_numbered(puts: &[u64], number: u32) -> usize
     ensures { result ≡ puts_of_number puts.now number }
 {
     if number == 0 {
@@ -34,7 +34,7 @@ fn puts_numbered(puts: &[u8], number: u32) -> usize
 }
 
 /// Counts the put lines before a line that are the line's, by how many frames each line of the script puts.
-pub fn puts_of_line(puts: &[u8], line: Outline) -> usize
+pub fn puts_of_line(puts: &[u64], line: Outline) -> usize
     ensures { result ≡ puts_by puts.now line }
 {
     match line {
@@ -50,7 +50,7 @@ pub fn puts_of_line(puts: &[u8], line: Outline) -> usize
 }
 
 /// Counts the put lines before the next line that are that line's.
-fn puts_of_head(puts: &[u8], head: Option<(Outline, &[u8])>) -> usize
+fn puts_of_head(puts: &[u64], head: Option<(Outline, &[u8])>) -> usize
     ensures { result ≡ puts_by_head puts.now (option_map (λ x. x.0) head.entry) }
 {
     match head {
@@ -124,7 +124,7 @@ pub fn read_entries<'a>(
     alloc: Global,
     unread: Unread<'a>,
     peers: &[u8],
-    puts: &[u8],
+    puts: &[u64],
     room: &mut [u8],
 ) -> Result<Result<Unread<'a>, u32>, NoMemory>
     requires fits { longest_line unread.text.now ≤ length room.old }

@@ -5,7 +5,7 @@
 
 use anyhow::{Context, bail};
 use linked_pair::{LinkedPair, Member, Which, reserve_call};
-use mc_base::{Done, EndName, Got, Local, Priority};
+use mc_base::{Done, EndName, Got, ITEM_SIZE, Local, Priority};
 use mc_journal::Journal;
 use std::alloc::Global;
 
@@ -83,7 +83,7 @@ fn meet(rt: &impl Print, board: &mut Board) -> anyhow::Result<()> {
     // The turns put the announcements, and those after the link was carried take them.
     board.exchange()?;
     board.exchange()?;
-    let mut out = [0; 488];
+    let mut out = [0; ITEM_SIZE];
     reserve_call(&mut board.zero)?;
     match board
         .pair
@@ -113,7 +113,7 @@ fn ask(rt: &impl Print, board: &mut Board) -> anyhow::Result<()> {
     );
     sent?;
     board.exchange()?;
-    let mut out = [0; 488];
+    let mut out = [0; ITEM_SIZE];
     reserve_call(&mut board.one)?;
     match board
         .pair
@@ -139,7 +139,7 @@ fn answer(rt: &impl Print, board: &mut Board) -> anyhow::Result<()> {
     );
     sent?;
     board.exchange()?;
-    let mut out = [0; 488];
+    let mut out = [0; ITEM_SIZE];
     reserve_call(&mut board.zero)?;
     let got = board
         .pair

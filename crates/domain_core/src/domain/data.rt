@@ -1,6 +1,7 @@
 //! The calls that send and receive packets and scalars, the items of channels.
 
 ghost use Rattle.std.specs.Prelude.{◌≡◌, ◌≤◌, ◌<◌, ◌+◌, ◌*◌, ◌^◌, ◌↔◌, IfErr, IfOk, IfSome, IsErr, IsNone, None, Some, length, option_and_then, option_map, slice_get};
+ghost use Rattle.mc_base.specs.Limits.{item_size};
 ghost use Rattle.mc_base.specs.declared.refusal.Refusal.TheVariants.{BufInvalid};
 ghost use Rattle.mc_base.specs.Letter.{bytes_of_bits};
 ghost use Rattle.board_model.specs.DomainCall.{lend_at, packet_from, packet_request_at, release_of, scalar_at, scalar_from};
@@ -15,7 +16,8 @@ use mc_base::{Bits, Local, PacketId, Refusal, RequestId};
 use mc_journal::Journal;
 
 impl<S: SendEnd, R: RecvEnd> Domain<S, R> {
-    /// Sends a packet of 0 to 488 bytes over the channel of an endpoint, in one buffer of the lane to the receiver's domain.
+    /// Sends a packet of 0 to 8,192 bytes over the channel of an endpoint: up to 488 bytes in one frame, and more in parts of 484, which
+    /// are all put or none. Each takes a buffer of the lane to the receiver's domain.
     ///
     /// # Errors
     ///
@@ -25,8 +27,8 @@ impl<S: SendEnd, R: RecvEnd> Domain<S, R> {
     /// - `ChanType`: the channel carries scalars.
     /// - `ChanClosed`: one of the ends is closed.
     /// - `NotOpen`: one of the ends is not open.
-    /// - `PktSize`: the packet has more than 488 bytes.
-    /// - `NoBuffer`: no buffer of the lane is free after the turn.
+    /// - `PktSize`: the packet has more than 8,192 bytes, or needs more frames than the lane has buffers.
+    /// - `NoBuffer`: fewer buffers of the lane are free after the turn than the packet needs frames.
     pub fn pkt_send(
         &mut self,
         journal: &mut Journal,
@@ -102,7 +104,7 @@ impl<S: SendEnd, R: RecvEnd> Domain<S, R> {
     }
 
     /// Returns the number of pieces of a lent packet: one for each frame that brought it, at least one. In order they are the packet's bytes, 0 to
-    /// 488 in all. It makes no turn.
+    /// 8,192 in all. It makes no turn.
     ///
     /// # Errors
     ///
@@ -111,7 +113,7 @@ impl<S: SendEnd, R: RecvEnd> Domain<S, R> {
         ensures count { IfOk result (λ n. Some n ≡ option_map length (pieces_lent_as self.now id)) }
         ensures some { IfOk result (λ n. 0 < n) }
         ensures whole { content_by (pieces_lent_as self.now id) ≡ option_map (λ p. p.item.content) (packet_lent_as self.now id) }
-        ensures short { IfSome (packet_lent_as self.now id) (λ p. length p.item.content ≤ 488) }
+        ensures short { IfSome (packet_lent_as self.now id) (λ p. length p.item.content ≤ item_size) }
         ensures refused { IsErr result ↔ IsNone (packet_lent_as self.now id) }
         ensures word { IfErr result (λ word. word ≡ BufInvalid) }
     {

@@ -1,6 +1,7 @@
 //! The calls that wait for requests.
 
 ghost use Rattle.std.specs.Prelude.{◌≡◌, ◌≤◌, ◌∷◌, [], false, true, IfOk, OnErr, length};
+ghost use Rattle.mc_base.specs.Limits.{item_size};
 ghost use Rattle.domain_parts.specs.Awaiting.{first_settled};
 ghost use Rattle.domain_parts.specs.Calls.{GivesTo, LendsBy};
 ghost use Rattle.domain_parts.specs.DomainView.{packet_lent_as};
@@ -18,7 +19,7 @@ use mc_journal::Journal;
 impl<S: SendEnd, R: RecvEnd> Domain<S, R> {
     /// Makes turns until a request is complete, at most `limit`, and ends it as [`test`](Domain::test) does. Where the request is
     /// complete already it makes no turn. Otherwise the journal records the start of the wait, under `number`, which is that of its
-    /// line in a script, and each turn. `out` has at least 488 bytes.
+    /// line in a script, and each turn. `out` has at least 8,192 bytes.
     ///
     /// # Errors
     ///
@@ -37,7 +38,7 @@ impl<S: SendEnd, R: RecvEnd> Domain<S, R> {
     ) -> Result<Done, WaitFault>
         requires entry_room { call_entries ≤ journal.old.entry_room }
         requires byte_room { call_bytes ≤ journal.old.byte_room }
-        requires out { 488 ≤ length out.old }
+        requires out { item_size ≤ length out.old }
         ensures wait { Waits (EndsMoved S.Moved R.Moved) number limit (id ∷ []) false self.old self.new journal.old.lines journal.new.lines (waited result out.new (packet_lent_as self.new)) }
         ensures message { IfOk result (λ done. GivesTo done out.old out.new) }
         ensures lent { IfOk result (LendsBy self.old self.new) }
@@ -64,7 +65,7 @@ impl<S: SendEnd, R: RecvEnd> Domain<S, R> {
         requires some { 1 ≤ length ids.now.items }
         requires entry_room { call_entries ≤ journal.old.entry_room }
         requires byte_room { call_bytes ≤ journal.old.byte_room }
-        requires out { 488 ≤ length out.old }
+        requires out { item_size ≤ length out.old }
         ensures wait { Waits (EndsMoved S.Moved R.Moved) number limit ids.now.items true self.old self.new journal.old.lines journal.new.lines (waited_any result out.new (packet_lent_as self.new)) }
         ensures message { IfOk result (λ x. GivesTo x.1 out.old out.new) }
         ensures lent { IfOk result (λ x. LendsBy self.old self.new x.1) }

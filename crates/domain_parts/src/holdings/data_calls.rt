@@ -25,7 +25,7 @@ use crate::outgoing::Outgoing;
 use crate::parts::Carrier;
 use crate::peer_lane::PeerLane;
 use crate::peers::give_back_lent;
-use mc_base::{Bits, Got, ITEM_SIZE, Kind, Letter, Local, PacketId, Refusal, RequestId};
+use mc_base::{Bits, Got, Kind, Letter, Local, PacketId, Refusal, RequestId};
 use mc_journal::Journal;
 use request_set::{Ask, Complete};
 use scalar_channel::read_scalar;
@@ -52,9 +52,6 @@ impl<P: PeerLane> Holdings<P> {
             return Err(Refusal::NotConnected);
         };
         channel.may_send(Kind::Packet)?;
-        if bytes.len() > ITEM_SIZE {
-            return Err(Refusal::PktSize);
-        }
         let item = Outgoing {
             peer: channel.peer,
             source: self.address_at(at, place),
@@ -62,6 +59,9 @@ impl<P: PeerLane> Holdings<P> {
             carrier: Carrier::Packet(channel.number),
             bytes,
         };
+        if self.is_too_long(&item) {
+            return Err(Refusal::PktSize);
+        }
         self.put_item(journal, &item)
     }
 

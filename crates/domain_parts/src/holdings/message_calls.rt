@@ -18,7 +18,7 @@ use crate::outgoing::Outgoing;
 use crate::parts::Carrier;
 use crate::peer_lane::PeerLane;
 use crate::peers::give_back;
-use mc_base::{EndName, Got, ITEM_SIZE, Local, Priority, Refusal};
+use mc_base::{EndName, Got, Local, Priority, Refusal};
 use mc_journal::Journal;
 
 impl<P: PeerLane> Holdings<P> {
@@ -48,9 +48,6 @@ impl<P: PeerLane> Holdings<P> {
         let Some(destination) = self.address_of(to) else {
             return Err(Refusal::PeerInvalid);
         };
-        if bytes.len() > ITEM_SIZE {
-            return Err(Refusal::MsgSize);
-        }
         let item = Outgoing {
             peer: to.domain,
             source,
@@ -58,6 +55,9 @@ impl<P: PeerLane> Holdings<P> {
             carrier: Carrier::Message(priority),
             bytes,
         };
+        if self.is_too_long(&item) {
+            return Err(Refusal::MsgSize);
+        }
         self.put_item(journal, &item)
     }
 

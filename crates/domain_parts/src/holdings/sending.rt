@@ -1,10 +1,10 @@
 //! The frames of a message or packet that is sent, put one after the other.
 
-ghost use Rattle.std.specs.Prelude.{◌≡◌, ◌≤◌, ◌<◌, ◌+◌, ◌*◌, IfErr, OnErr, OnOk, is_err, length, map};
+ghost use Rattle.std.specs.Prelude.{◌≡◌, ◌≤◌, ◌<◌, ◌+◌, ◌*◌, ◌||◌, IfErr, OnErr, OnOk, is_err, length, map, nat_lt};
 ghost use Rattle.mc_base.specs.Letter.{IsCarrier};
-ghost use Rattle.mc_base.specs.Limits.{piece_size, total_size};
+ghost use Rattle.mc_base.specs.Limits.{item_size, piece_size};
 ghost use Rattle.mc_base.specs.declared.refusal.Refusal.TheVariants.{NoBuffer};
-ghost use Rattle.board_model.specs.Answer.{lacks_buffers, puts_of};
+ghost use Rattle.board_model.specs.Answer.{lacks_buffers, passes_lane, puts_of};
 ghost use Rattle.board_model.specs.Journal.{noted_all};
 ghost use Rattle.board_model.specs.Serial.{put_entry};
 ghost use Rattle.board_model.specs.State.{free_to};
@@ -18,10 +18,20 @@ ghost use Rattle.domain_parts.specs.Steps.{Did};
 use crate::holdings::Holdings;
 use crate::outgoing::Outgoing;
 use crate::peer_lane::PeerLane;
-use mc_base::{PIECE_SIZE, Refusal};
+use mc_base::{ITEM_SIZE, PIECE_SIZE, Refusal};
 use mc_journal::Journal;
 
 impl<P: PeerLane> Holdings<P> {
+    /// Whether an item has more than 8,192 bytes, or needs more frames than the lane to its peer has buffers.
+    pub(super) fn is_too_long(&self, item: &Outgoing<'_>) -> bool
+        ensures { result ≡ (nat_lt item_size (length item.now.bytes.now) || passes_lane (state_of self.now.parts) (puts_of (post_of item.now))) }
+    {
+        if item.bytes.len() > ITEM_SIZE {
+            return true;
+        }
+        self.size_to(item.peer) < item.frames(PIECE_SIZE)
+    }
+
     /// Puts a message or packet to its peer, all its frames one after the other, and notes each.
     ///
     /// # Errors
@@ -34,7 +44,7 @@ impl<P: PeerLane> Holdings<P> {
         item: &Outgoing<'_>,
     ) -> Result<(), Refusal>
         requires carrier { IsCarrier (carrier_in item.now.carrier) }
-        requires short { length item.now.bytes.now ≤ total_size }
+        requires short { length item.now.bytes.now ≤ item_size }
         requires entry_room { item_entries ≤ journal.old.entry_room }
         requires byte_room { item_bytes ≤ journal.old.byte_room }
         ensures full { is_err result ≡ lacks_buffers (state_of self.old.parts) (puts_of (post_of item.now)) }
@@ -64,7 +74,7 @@ impl<P: PeerLane> Holdings<P> {
     #[inline(never)] // Items of one frame, which come more often, stay short.
     fn put_parts(&mut self, journal: &mut Journal, item: &Outgoing<'_>, cut: usize, count: usize)
         requires carrier { IsCarrier (carrier_in item.now.carrier) }
-        requires short { length item.now.bytes.now ≤ total_size }
+        requires short { length item.now.bytes.now ≤ item_size }
         requires cuts { 0 < cut }
         requires fits { cut ≤ piece_size }
         requires some { 0 < count }

@@ -7,7 +7,7 @@ ghost use Rattle.domain_parts.specs.Parts.{peer_at};
 
 use crate::dealing::{Dealt, Verdict, deal_with};
 use crate::holdings::Holdings;
-use crate::messages::{CONTENT, PIECE};
+use crate::messages::PIECE;
 use crate::parts::OpenPart;
 use crate::peer_lane::PeerLane;
 use crate::peers::end_part;
@@ -63,7 +63,7 @@ impl<P: PeerLane> Holdings<P> {
             fate,
         });
         match dealt {
-            Dealt::Alone(verdict) => {
+            Dealt::Alone { verdict, headers } => {
                 end_part(&mut self.book, &mut peer.ends, open);
                 self.endpoints.drop_part(number);
                 match verdict {
@@ -72,11 +72,11 @@ impl<P: PeerLane> Holdings<P> {
                         priority,
                         size,
                     } => {
-                        let slot = self.book.enqueue(number, buffer, CONTENT, size);
+                        let slot = self.book.enqueue(number, buffer, headers, size);
                         self.endpoints.queue_last(at, slot, priority);
                     }
                     Verdict::Handed { id, ask, size } => {
-                        let slot = self.book.enqueue(number, buffer, CONTENT, size);
+                        let slot = self.book.enqueue(number, buffer, headers, size);
                         self.requests.complete(id, handed(ask, slot));
                     }
                     Verdict::Returned(_) => peer.ends.give_back(buffer),

@@ -1,6 +1,7 @@
 //! The calls of a pair on channels.
 
 ghost use Rattle.std.specs.Prelude.{◌≡◌, ◌↔◌, ◌≤◌, ◌<◌, ◌+◌, ◌*◌, ◌^◌, IfErr, IfOk, IfSome, IsErr, IsNone, None, Some, length, option_and_then, option_map, slice_get};
+ghost use Rattle.mc_base.specs.Limits.{item_size};
 ghost use Rattle.mc_base.specs.declared.channel.Side.TheVariants.{Receiver, Sender};
 ghost use Rattle.mc_base.specs.Letter.{bytes_of_bits};
 ghost use Rattle.board_model.specs.DomainCall.{connect_from, open_at, close_at, packet_from, lend_at, packet_request_at, release_of, scalar_at, scalar_from};
@@ -166,7 +167,7 @@ impl LinkedPair {
         ensures count { IfOk result (λ n. Some n ≡ option_map length (pieces_lent_as (domain_of which self.now) id)) }
         ensures some { IfOk result (λ n. 0 < n) }
         ensures whole { content_by (pieces_lent_as (domain_of which self.now) id) ≡ option_map (λ p. p.item.content) (packet_lent_as (domain_of which self.now) id) }
-        ensures short { IfSome (packet_lent_as (domain_of which self.now) id) (λ p. length p.item.content ≤ 488) }
+        ensures short { IfSome (packet_lent_as (domain_of which self.now) id) (λ p. length p.item.content ≤ item_size) }
         ensures refused { IsErr result ↔ IsNone (packet_lent_as (domain_of which self.now) id) }
         ensures word { IfErr result (λ word. word ≡ BufInvalid) }
     {

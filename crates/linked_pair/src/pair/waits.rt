@@ -1,6 +1,7 @@
 //! The calls of a pair that wait for requests.
 
 ghost use Rattle.std.specs.Prelude.{◌≡◌, ◌≤◌, ◌∷◌, [], false, true, IfOk, OnErr, length};
+ghost use Rattle.mc_base.specs.Limits.{item_size};
 ghost use Rattle.domain_core.specs.Awaiting.{first_settled};
 ghost use Rattle.domain_core.specs.Calls.{GivesTo, LendsBy};
 ghost use Rattle.domain_core.specs.DomainView.{packet_lent_as};
@@ -16,7 +17,7 @@ use mc_base::{Done, RequestId};
 use mc_journal::Journal;
 
 impl LinkedPair {
-    /// Waits for a request for at most `limit` turns, as [`Domain::wait`]. `out` has at least 488 bytes.
+    /// Waits for a request for at most `limit` turns, as [`Domain::wait`]. `out` has at least 8,192 bytes.
     pub fn wait(
         &mut self,
         which: Which,
@@ -28,7 +29,7 @@ impl LinkedPair {
     ) -> Result<Done, WaitFault>
         requires entry_room { call_entries ≤ journal.old.entry_room }
         requires byte_room { call_bytes ≤ journal.old.byte_room }
-        requires out { 488 ≤ length out.old }
+        requires out { item_size ≤ length out.old }
         ensures wait { WaitsAt which number limit (id ∷ []) false self.old self.new journal.old.lines journal.new.lines (waited result out.new (packet_lent_as (domain_of which self.new))) }
         ensures message { IfOk result (λ done. GivesTo done out.old out.new) }
         ensures lent { IfOk result (LendsBy (domain_of which self.old) (domain_of which self.new)) }
@@ -42,7 +43,7 @@ impl LinkedPair {
         }
     }
 
-    /// Waits for one of several requests, as [`Domain::wait_any`]. `out` has at least 488 bytes.
+    /// Waits for one of several requests, as [`Domain::wait_any`]. `out` has at least 8,192 bytes.
     pub fn wait_any(
         &mut self,
         which: Which,
@@ -55,7 +56,7 @@ impl LinkedPair {
         requires some { 1 ≤ length ids.now.items }
         requires entry_room { call_entries ≤ journal.old.entry_room }
         requires byte_room { call_bytes ≤ journal.old.byte_room }
-        requires out { 488 ≤ length out.old }
+        requires out { item_size ≤ length out.old }
         ensures wait { WaitsAt which number limit ids.now.items true self.old self.new journal.old.lines journal.new.lines (waited_any result out.new (packet_lent_as (domain_of which self.new))) }
         ensures message { IfOk result (λ x. GivesTo x.1 out.old out.new) }
         ensures lent { IfOk result (λ x. LendsBy (domain_of which self.old) (domain_of which self.new) x.1) }

@@ -16,11 +16,10 @@ ghost use Rattle.report_replay.specs.Views.{end_of};
 
 use crate::calls::call::DomainCall;
 use crate::channel::{ChannelEnd, Stage};
-use crate::frames::frames_needed;
 use crate::peer::Announcement;
 use crate::request::{Asked, Outcome};
 use crate::state::State;
-use mc_base::{EndName, FIRST_ADDRESS, Kind, Local, NoMemory, Refusal, Side};
+use mc_base::{EndName, FIRST_ADDRESS, Kind, Local, NoMemory, Refusal, Side, frames_needed};
 use std::alloc::Global;
 
 impl State {

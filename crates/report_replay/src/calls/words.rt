@@ -1,10 +1,10 @@
 //! The word by which a call is refused.
 
-ghost use Rattle.std.specs.Prelude.{◌≡◌, length, nat_lt, option_map};
+ghost use Rattle.std.specs.Prelude.{◌≡◌, ◌||◌, length, nat_lt, option_map};
 ghost use Rattle.mc_base.specs.Letter.{bytes_of_bits};
 ghost use Rattle.mc_base.specs.Limits.{item_size};
 ghost use Rattle.board_model.specs.State.{queue_at};
-ghost use Rattle.board_model.specs.Answer.{channel_at, content_size, end_call, holds as condition_of, holds_at_end, is_complete, is_of_other_size, is_sound_raw, lacks_buffers, lacks_complete, lacks_end, lacks_lane, lacks_request, named, packet_named, refusal as first_word, request_named, success_puts, words_of};
+ghost use Rattle.board_model.specs.Answer.{channel_at, content_size, end_call, holds as condition_of, holds_at_end, is_complete, is_of_other_size, is_sound_raw, lacks_buffers, lacks_complete, lacks_end, lacks_lane, lacks_request, named, packet_named, passes_lane, refusal as first_word, request_named, success_puts, words_of};
 ghost use Rattle.report_replay.specs.PlainCalls.{plain_call, plain_end_call};
 ghost use Rattle.report_replay.specs.Puts.{headed};
 ghost use Rattle.report_replay.specs.Views.{end_of};
@@ -12,11 +12,11 @@ ghost use Rattle.report_replay.specs.Views.{end_of};
 use crate::calls::call::DomainCall;
 use crate::calls::ends::EndCall;
 use crate::channel::ChannelEnd;
-use crate::frames::frames_needed;
 use crate::request::{LentPacket, Request};
 use crate::state::State;
 use mc_base::{
     Bits, ITEM_SIZE, Local, MAX_CHANNELS, MAX_ENDPOINTS, MAX_ENDPOINTS_EVER, MAX_REQUESTS, Refusal,
+    frames_needed,
 };
 use name_service::fault_of;
 
@@ -117,13 +117,6 @@ impl DomainCall<'_> {
 }
 
 impl DomainCall<'_> {
-    /// Whether the call sends more than a message or a packet has at most.
-    fn is_too_long(&self) -> bool
-        ensures { result ≡ nat_lt item_size (content_size (plain_call self.now)) }
-    {
-        self.content_size() > ITEM_SIZE
-    }
-
     /// Whether the call puts a raw frame that has no fault.
     fn is_sound_raw(&self) -> bool
         ensures { result ≡ is_sound_raw (plain_call self.now) }
@@ -167,7 +160,7 @@ impl State {
             | Refusal::ChanClosed
             | Refusal::AlreadyOpen
             | Refusal::NotOpen => self.end_refuses(here, call, word),
-            Refusal::MsgSize | Refusal::PktSize => call.is_too_long(),
+            Refusal::MsgSize | Refusal::PktSize => self.is_too_large(node, call),
             Refusal::SclSize => self.is_of_other_size(here, call),
             Refusal::BufInvalid => self.packet_named(call).is_none(),
             Refusal::NoBuffer => self.lacks_buffers(node, call),
@@ -278,7 +271,7 @@ impl State {
 
     #[tactic(auto, using(crate::proofs::FramesFor::packet_headed))]
     /// The peer to which success puts frames, and how many, if it puts any.
-    fn puts_of_success(&self, node: u8, call: &DomainCall<'_>) -> Option<(u8, u64)>
+    pub fn puts_of_success(&self, node: u8, call: &DomainCall<'_>) -> Option<(u8, u64)>
         ensures { result ≡ headed (success_puts self.now node (plain_call call.now)) }
     {
         match call {
@@ -294,6 +287,23 @@ impl State {
             }
             DomainCall::Raw { to, .. } => Some((*to, 1)),
             _ => None,
+        }
+    }
+
+    /// Whether the call sends more bytes than a message or a packet has, or more frames than the lane has buffers.
+    fn is_too_large(&self, node: u8, call: &DomainCall<'_>) -> bool
+        ensures { result ≡ (nat_lt item_size (content_size (plain_call call.now)) || passes_lane self.now (success_puts self.now node (plain_call call.now))) }
+    {
+        call.content_size() > ITEM_SIZE || self.passes_lane(node, call)
+    }
+
+    /// Whether the lane has fewer buffers than success would put frames.
+    fn passes_lane(&self, node: u8, call: &DomainCall<'_>) -> bool
+        ensures { result ≡ passes_lane self.now (success_puts self.now node (plain_call call.now)) }
+    {
+        match self.puts_of_success(node, call) {
+            Some((peer, count)) => u64::from(self.size_to(peer)) < count,
+            None => false,
         }
     }
 

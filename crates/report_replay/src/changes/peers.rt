@@ -17,6 +17,7 @@ use crate::peer::{Announcement, Peer, Reply};
 use crate::state::State;
 use mc_base::{EndName, NoMemory};
 use name_service::Said;
+use std::alloc::Global;
 
 impl State {
     /// Owes an announcement to each linked domain. Where it is the last that told of an end, the record of that is given up.
@@ -72,17 +73,22 @@ impl State {
 
     /// One of the shown frames of a peer is taken, which says this by itself: it is read with the open part of the peer, which is another
     /// after it.
-    pub(crate) fn read_on<'a>(&mut self, peer: u8, said: Said<'a>) -> Result<Coming<'a>, NoMemory>
+    pub(crate) fn read_on<'a>(
+        &mut self,
+        alloc: Global,
+        peer: u8,
+        said: Said<'a>,
+    ) -> Result<Coming<'a>, NoMemory>
         ensures state { OnOk result (self.new ≡ record self.old { peers = at_peer peer (shown_less (coming_read self.old peer (reading_of said.entry)).part) self.old.peers }) }
         ensures joins { IfOk result (λ c. c.joins ≡ (coming_read self.old peer (reading_of said.entry)).joins) }
         ensures says { IfOk result (λ c. SaysSo (reading_of said.entry) c.says (coming_read self.old peer (reading_of said.entry))) }
     {
         let Some(place) = self.place_of_peer(peer) else {
-            return read_with(&mut None, said);
+            return read_with(alloc, &mut None, said);
         };
         let peer = &mut self.peers[place];
         peer.shown = peer.shown.saturating_sub(1);
-        read_with(&mut peer.part, said)
+        read_with(alloc, &mut peer.part, said)
     }
 
     /// Learns the address of a name of a peer. The name is known, or fewer than 64 others are.

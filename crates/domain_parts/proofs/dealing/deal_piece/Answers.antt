@@ -6,8 +6,8 @@ use Rattle.domain_parts.specs.declared.parts.OpenPart.{OpenPart}
 use Rattle.domain_parts.specs.Dealt.{GrowsTo}
 use Rattle.domain_parts.specs.InBook.{content_in, part_read, whole_at}
 use Rattle.domain_parts.specs.Pieces.{part_with}
-use Rattle.domain_parts.proofs.PieceDeals.{joins-dealt, stray-dealt}
-use Rattle.domain_parts.proofs.Pieces.{begins-none, coming-read, passes}
+use Rattle.domain_parts.proofs.PieceDeals.{joins-dealt}
+use Rattle.domain_parts.proofs.Pieces.{coming-read, passes}
 use Rattle.domain_parts.proofs.Readings.{none-from}
 use Rattle.domain_parts.proofs.dealing.deal_piece.Goals as goal
 use Rattle.domain_parts.proofs.dealing.deal_piece.Goals.{in-Some+else-goes_on, in_default}
@@ -22,11 +22,8 @@ returns-then-goes_on c = λ frame q said is names replies b s name shows part.
     let grows = subst (λ (g : OpenPart). GrowsTo r c.args.requests.now g c.args.piece.size c.grow.result) c.grown.ensures c.grow.ensures in
     joins-dealt b s name c.args.peer frame c.args.piece q said is r o found (part.part ∙ ap (option_map (λ (z : OpenPart). (part_read b z).part)) found) came on c.args.requests.now names replies c.grow.result shows grows
 
-pub returns-then-begins : goal.returns-then-begins
-returns-then-begins c = λ frame q said is names replies b s name shows part. absurd (begins-none q (sym (c.begins.ensures q is) ∙ c.if-begins.true))
-
-pub returns-else-begins : goal.returns-else-begins
-returns-else-begins c = λ frame q said is names replies b s name shows part.
+pub returns : goal.returns
+returns c = λ frame q said is names replies b s name shows part.
     let r = c.args.endpoints.now in
     let p = c.args.piece in
     let peer = c.args.peer in
@@ -42,4 +39,4 @@ returns-else-begins c = λ frame q said is names replies b s name shows part.
           let none = sym c.part_of.ensures ∙ none-from c.part_of.result w.in_default.not-Some in
           coming-read s peer name frame None (brings p.source p.destination q) (part.part ∙ ap (option_map (λ (z : OpenPart). (part_read b z).part)) none) said
     ] in
-    stray-dealt b s name peer frame p q said is _ so (sym (c.begins.ensures q is) ∙ c.if-begins.false)
+    c.deal_first.ensures frame q said is names replies b s name shows so

@@ -146,7 +146,7 @@ enqueue-slot-requires-clause-inside g c =
     let all = subst (λ (f : List ℕ). IsDealt (state_of (p g d)) (Some m) n d.book f before after c.deal_with-dealt.result) frame (c.deal_with-dealt.ensures d.book (state_of (p g d)) (Some m) (shows g.P.PeerLane.Moved g.met.P.PeerLane.none g.met.P.PeerLane.both (v g) d.book d.endpoints d.requests d.table d.peers.items c.self.invariant c.args.place x at c.take-buffer.result.0 c.take-buffer.result.1 lines lines' found open_is) (shows-part g.P.PeerLane.Moved g.met.P.PeerLane.none g.met.P.PeerLane.both (v g) d.book d.endpoints d.requests d.table d.peers.items c.self.invariant c.args.place x at c.take-buffer.result.0 c.take-buffer.result.1 lines lines' found open_is)) in
     let alone = rw c.in-Alone.is at all in
     let is = rw c.in-Queued.is at alone.verdict in
-    let short = is.1.short in omega (arith, short)
+    let inside = is.1.inside in let cut = length-take c.take-buffer.result.1 c.take-buffer.result.0.bytes in let most = took.fits in omega (arith, inside, cut, most)
 
 pub queue_last-requires-clause-within : goal.queue_last-requires-clause-within
 queue_last-requires-clause-within g c =
@@ -211,8 +211,8 @@ invariant_of-self g c =
     let is = rw c.in-Queued.is at alone.verdict in
     let slot = c.enqueue-slot.ensures.slot in
     let records = c.queue_last.ensures ∙ ap (λ (r : Records). with_waiting_at r c.in-Queued.at (waiting c.enqueue-slot.result c.in-Queued.priority)) (c.drop_part.ensures ∙ ap (λ (z : Desk). without_part_of z.records n) is.3) ∙ ap (λ (s : Slot). with_waiting_at (without_part_of d.endpoints n) c.in-Queued.at (waiting s c.in-Queued.priority)) slot in
-    let book = c.enqueue-slot.ensures.book ∙ ap (λ (s : Slot). with_queued c.end_part.new.book s (kept_in_buffer c.take-buffer.result.0 24 c.in-Queued.size)) slot ∙ ap (λ (b : Book). with_queued b (slot_at n m) (kept_in_buffer c.take-buffer.result.0 24 c.in-Queued.size)) c.end_part.ensures.book in
-    queued-keeps g.P.PeerLane.Moved g.met.P.PeerLane.none g.met.P.PeerLane.both (v g) d.book d.endpoints d.requests d.table d.peers.items c.self.invariant c.args.place x at c.take-buffer.result.0 c.take-buffer.result.1 lines lines' found open_is c.take-buffer.new.self took.seen took.moved took.apart c.end_part.new.ends c.end_part.ensures.seen c.end_part.ensures.moved c.in-Queued.size is.1 c.enqueue-slot.new.self book c.deal_with-dealt.new.known (ap (λ (z : Desk). z.names) is.3) c.deal_with-dealt.new.replies (ap (λ (z : Desk). z.replies) is.3) alone.shut c.in-Queued.at c.in-Queued.priority is.0 is.2 (rw c.in-Queued.is at alone.gives) c.queue_last.new.self c.deal_with-dealt.new.requests records (ap (λ (z : Desk). z.requests) is.3)
+    let book = c.enqueue-slot.ensures.book ∙ ap (λ (s : Slot). with_queued c.end_part.new.book s (kept_in_buffer c.take-buffer.result.0 c.in-Alone.headers c.in-Queued.size)) slot ∙ ap (λ (b : Book). with_queued b (slot_at n m) (kept_in_buffer c.take-buffer.result.0 c.in-Alone.headers c.in-Queued.size)) c.end_part.ensures.book in
+    queued-keeps g.P.PeerLane.Moved g.met.P.PeerLane.none g.met.P.PeerLane.both (v g) d.book d.endpoints d.requests d.table d.peers.items c.self.invariant c.args.place x at c.take-buffer.result.0 c.take-buffer.result.1 lines lines' found open_is c.take-buffer.new.self took.seen took.moved took.apart c.end_part.new.ends c.end_part.ensures.seen c.end_part.ensures.moved c.in-Alone.headers c.in-Queued.size is.1 c.enqueue-slot.new.self book c.deal_with-dealt.new.known (ap (λ (z : Desk). z.names) is.3) c.deal_with-dealt.new.replies (ap (λ (z : Desk). z.replies) is.3) alone.shut c.in-Queued.at c.in-Queued.priority is.0 is.2 (rw c.in-Queued.is at alone.gives) c.queue_last.new.self c.deal_with-dealt.new.requests records (ap (λ (z : Desk). z.requests) is.3)
 
 pub returns-in-Queued-clause-takes : goal.returns-in-Queued-clause-takes
 returns-in-Queued-clause-takes g c =
@@ -235,10 +235,10 @@ returns-in-Queued-clause-takes g c =
     let is = rw c.in-Queued.is at alone.verdict in
     let slot = c.enqueue-slot.ensures.slot in
     let records = c.queue_last.ensures ∙ ap (λ (r : Records). with_waiting_at r c.in-Queued.at (waiting c.enqueue-slot.result c.in-Queued.priority)) (c.drop_part.ensures ∙ ap (λ (z : Desk). without_part_of z.records n) is.3) ∙ ap (λ (s : Slot). with_waiting_at (without_part_of d.endpoints n) c.in-Queued.at (waiting s c.in-Queued.priority)) slot in
-    let book = c.enqueue-slot.ensures.book ∙ ap (λ (s : Slot). with_queued c.end_part.new.book s (kept_in_buffer c.take-buffer.result.0 24 c.in-Queued.size)) slot ∙ ap (λ (b : Book). with_queued b (slot_at n m) (kept_in_buffer c.take-buffer.result.0 24 c.in-Queued.size)) c.end_part.ensures.book in
+    let book = c.enqueue-slot.ensures.book ∙ ap (λ (s : Slot). with_queued c.end_part.new.book s (kept_in_buffer c.take-buffer.result.0 c.in-Alone.headers c.in-Queued.size)) slot ∙ ap (λ (b : Book). with_queued b (slot_at n m) (kept_in_buffer c.take-buffer.result.0 c.in-Alone.headers c.in-Queued.size)) c.end_part.ensures.book in
     let told = c.note.ensures.lines ∙ ap (λ (f : List ℕ). lines ++ take_line n f c.fate-fate.result ∷ []) frame ∙ ap (λ (w : Fate). lines ++ take_line n bytes w ∷ []) (c.fate-fate.ensures ∙ ap word_of c.in-Alone.is ∙ ap fate_of c.in-Queued.is) in
     subst (λ (h : Holding g.row.P.Denot). Takes g.P.PeerLane.Moved c.args.place 1 h (holding_in (v g) c.enqueue-slot.new.self c.queue_last.new.self c.deal_with-dealt.new.requests d.table (slice_set d.peers.items c.args.place (record x { ends = c.end_part.new.ends; known = c.deal_with-dealt.new.known; replies = c.deal_with-dealt.new.replies }))) lines lines') c.self.view_is
-    (queued-takes g.P.PeerLane.Moved g.met.P.PeerLane.none g.met.P.PeerLane.both (v g) d.book d.endpoints d.requests d.table d.peers.items c.self.invariant c.args.place x at c.take-buffer.result.0 c.take-buffer.result.1 lines lines' found open_is c.take-buffer.new.self took.seen took.moved took.apart c.end_part.new.ends c.end_part.ensures.seen c.end_part.ensures.moved c.in-Queued.size is.1 c.enqueue-slot.new.self book c.deal_with-dealt.new.known (ap (λ (z : Desk). z.names) is.3) c.deal_with-dealt.new.replies (ap (λ (z : Desk). z.replies) is.3) alone.shut c.in-Queued.at c.in-Queued.priority is.0 is.2 (rw c.in-Queued.is at alone.gives) c.queue_last.new.self c.deal_with-dealt.new.requests records (ap (λ (z : Desk). z.requests) is.3) told)
+    (queued-takes g.P.PeerLane.Moved g.met.P.PeerLane.none g.met.P.PeerLane.both (v g) d.book d.endpoints d.requests d.table d.peers.items c.self.invariant c.args.place x at c.take-buffer.result.0 c.take-buffer.result.1 lines lines' found open_is c.take-buffer.new.self took.seen took.moved took.apart c.end_part.new.ends c.end_part.ensures.seen c.end_part.ensures.moved c.in-Alone.headers c.in-Queued.size is.1 c.enqueue-slot.new.self book c.deal_with-dealt.new.known (ap (λ (z : Desk). z.names) is.3) c.deal_with-dealt.new.replies (ap (λ (z : Desk). z.replies) is.3) alone.shut c.in-Queued.at c.in-Queued.priority is.0 is.2 (rw c.in-Queued.is at alone.gives) c.queue_last.new.self c.deal_with-dealt.new.requests records (ap (λ (z : Desk). z.requests) is.3) told)
 
 -- ---- it is handed to a request
 
@@ -299,7 +299,7 @@ enqueue-slot-requires-in-Handed-clause-inside g c =
     let all = subst (λ (f : List ℕ). IsDealt (state_of (p g d)) (Some m) n d.book f before after c.deal_with-dealt.result) frame (c.deal_with-dealt.ensures d.book (state_of (p g d)) (Some m) (shows g.P.PeerLane.Moved g.met.P.PeerLane.none g.met.P.PeerLane.both (v g) d.book d.endpoints d.requests d.table d.peers.items c.self.invariant c.args.place x at c.take-buffer.result.0 c.take-buffer.result.1 lines lines' found open_is) (shows-part g.P.PeerLane.Moved g.met.P.PeerLane.none g.met.P.PeerLane.both (v g) d.book d.endpoints d.requests d.table d.peers.items c.self.invariant c.args.place x at c.take-buffer.result.0 c.take-buffer.result.1 lines lines' found open_is)) in
     let alone = rw c.in-Alone.is at all in
     let is = rw c.in-Handed.is at alone.verdict in
-    let short = is.1.short in omega (arith, short)
+    let inside = is.1.inside in let cut = length-take c.take-buffer.result.1 c.take-buffer.result.0.bytes in let most = took.fits in omega (arith, inside, cut, most)
 
 pub complete-requires : goal.complete-requires
 complete-requires g c =
@@ -343,8 +343,8 @@ invariant_of-self-in-Handed g c =
     let is = rw c.in-Handed.is at alone.verdict in
     let slot = c.enqueue-slot-in-Handed.ensures.slot in
     let requests = c.complete.ensures ∙ ap (λ (q : Requests). with_complete q c.in-Handed.id c.handed.result) (ap (λ (z : Desk). z.requests) is.2) ∙ ap (λ (how : Complete). with_complete d.requests c.in-Handed.id how) (c.handed.ensures ∙ ap (handed_by c.in-Handed.ask) slot) in
-    let book = c.enqueue-slot-in-Handed.ensures.book ∙ ap (λ (s : Slot). with_queued c.end_part.new.book s (kept_in_buffer c.take-buffer.result.0 24 c.in-Handed.size)) slot ∙ ap (λ (b : Book). with_queued b (slot_at n m) (kept_in_buffer c.take-buffer.result.0 24 c.in-Handed.size)) c.end_part.ensures.book in
-    handed-keeps g.P.PeerLane.Moved g.met.P.PeerLane.none g.met.P.PeerLane.both (v g) d.book d.endpoints d.requests d.table d.peers.items c.self.invariant c.args.place x at c.take-buffer.result.0 c.take-buffer.result.1 lines lines' found open_is c.take-buffer.new.self took.seen took.moved took.apart c.end_part.new.ends c.end_part.ensures.seen c.end_part.ensures.moved c.in-Handed.size is.1 c.enqueue-slot-in-Handed.new.self book c.deal_with-dealt.new.known (ap (λ (z : Desk). z.names) is.2) c.deal_with-dealt.new.replies (ap (λ (z : Desk). z.replies) is.2) alone.shut c.in-Handed.id c.in-Handed.ask is.0 (rw c.in-Handed.is at alone.gives) c.drop_part.new.self c.complete.new.self (c.drop_part.ensures ∙ ap (λ (z : Desk). without_part_of z.records n) is.2) requests
+    let book = c.enqueue-slot-in-Handed.ensures.book ∙ ap (λ (s : Slot). with_queued c.end_part.new.book s (kept_in_buffer c.take-buffer.result.0 c.in-Alone.headers c.in-Handed.size)) slot ∙ ap (λ (b : Book). with_queued b (slot_at n m) (kept_in_buffer c.take-buffer.result.0 c.in-Alone.headers c.in-Handed.size)) c.end_part.ensures.book in
+    handed-keeps g.P.PeerLane.Moved g.met.P.PeerLane.none g.met.P.PeerLane.both (v g) d.book d.endpoints d.requests d.table d.peers.items c.self.invariant c.args.place x at c.take-buffer.result.0 c.take-buffer.result.1 lines lines' found open_is c.take-buffer.new.self took.seen took.moved took.apart c.end_part.new.ends c.end_part.ensures.seen c.end_part.ensures.moved c.in-Alone.headers c.in-Handed.size is.1 c.enqueue-slot-in-Handed.new.self book c.deal_with-dealt.new.known (ap (λ (z : Desk). z.names) is.2) c.deal_with-dealt.new.replies (ap (λ (z : Desk). z.replies) is.2) alone.shut c.in-Handed.id c.in-Handed.ask is.0 (rw c.in-Handed.is at alone.gives) c.drop_part.new.self c.complete.new.self (c.drop_part.ensures ∙ ap (λ (z : Desk). without_part_of z.records n) is.2) requests
 
 pub returns-in-Handed-clause-takes : goal.returns-in-Handed-clause-takes
 returns-in-Handed-clause-takes g c =
@@ -367,10 +367,10 @@ returns-in-Handed-clause-takes g c =
     let is = rw c.in-Handed.is at alone.verdict in
     let slot = c.enqueue-slot-in-Handed.ensures.slot in
     let requests = c.complete.ensures ∙ ap (λ (q : Requests). with_complete q c.in-Handed.id c.handed.result) (ap (λ (z : Desk). z.requests) is.2) ∙ ap (λ (how : Complete). with_complete d.requests c.in-Handed.id how) (c.handed.ensures ∙ ap (handed_by c.in-Handed.ask) slot) in
-    let book = c.enqueue-slot-in-Handed.ensures.book ∙ ap (λ (s : Slot). with_queued c.end_part.new.book s (kept_in_buffer c.take-buffer.result.0 24 c.in-Handed.size)) slot ∙ ap (λ (b : Book). with_queued b (slot_at n m) (kept_in_buffer c.take-buffer.result.0 24 c.in-Handed.size)) c.end_part.ensures.book in
+    let book = c.enqueue-slot-in-Handed.ensures.book ∙ ap (λ (s : Slot). with_queued c.end_part.new.book s (kept_in_buffer c.take-buffer.result.0 c.in-Alone.headers c.in-Handed.size)) slot ∙ ap (λ (b : Book). with_queued b (slot_at n m) (kept_in_buffer c.take-buffer.result.0 c.in-Alone.headers c.in-Handed.size)) c.end_part.ensures.book in
     let told = c.note.ensures.lines ∙ ap (λ (f : List ℕ). lines ++ take_line n f c.fate-fate.result ∷ []) frame ∙ ap (λ (w : Fate). lines ++ take_line n bytes w ∷ []) (c.fate-fate.ensures ∙ ap word_of c.in-Alone.is ∙ ap fate_of c.in-Handed.is) in
     subst (λ (h : Holding g.row.P.Denot). Takes g.P.PeerLane.Moved c.args.place 1 h (holding_in (v g) c.enqueue-slot-in-Handed.new.self c.drop_part.new.self c.complete.new.self d.table (slice_set d.peers.items c.args.place (record x { ends = c.end_part.new.ends; known = c.deal_with-dealt.new.known; replies = c.deal_with-dealt.new.replies }))) lines lines') c.self.view_is
-    (handed-takes g.P.PeerLane.Moved g.met.P.PeerLane.none g.met.P.PeerLane.both (v g) d.book d.endpoints d.requests d.table d.peers.items c.self.invariant c.args.place x at c.take-buffer.result.0 c.take-buffer.result.1 lines lines' found open_is c.take-buffer.new.self took.seen took.moved took.apart c.end_part.new.ends c.end_part.ensures.seen c.end_part.ensures.moved c.in-Handed.size is.1 c.enqueue-slot-in-Handed.new.self book c.deal_with-dealt.new.known (ap (λ (z : Desk). z.names) is.2) c.deal_with-dealt.new.replies (ap (λ (z : Desk). z.replies) is.2) alone.shut c.in-Handed.id c.in-Handed.ask is.0 (rw c.in-Handed.is at alone.gives) c.drop_part.new.self c.complete.new.self (c.drop_part.ensures ∙ ap (λ (z : Desk). without_part_of z.records n) is.2) requests told)
+    (handed-takes g.P.PeerLane.Moved g.met.P.PeerLane.none g.met.P.PeerLane.both (v g) d.book d.endpoints d.requests d.table d.peers.items c.self.invariant c.args.place x at c.take-buffer.result.0 c.take-buffer.result.1 lines lines' found open_is c.take-buffer.new.self took.seen took.moved took.apart c.end_part.new.ends c.end_part.ensures.seen c.end_part.ensures.moved c.in-Alone.headers c.in-Handed.size is.1 c.enqueue-slot-in-Handed.new.self book c.deal_with-dealt.new.known (ap (λ (z : Desk). z.names) is.2) c.deal_with-dealt.new.replies (ap (λ (z : Desk). z.replies) is.2) alone.shut c.in-Handed.id c.in-Handed.ask is.0 (rw c.in-Handed.is at alone.gives) c.drop_part.new.self c.complete.new.self (c.drop_part.ensures ∙ ap (λ (z : Desk). without_part_of z.records n) is.2) requests told)
 
 -- ---- its buffer is given back
 

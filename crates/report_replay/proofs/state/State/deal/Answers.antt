@@ -5,7 +5,6 @@ use Rattle.board_model.specs.State.{Item}
 use Rattle.report_replay.specs.Dealt.{Deals}
 use Rattle.report_replay.specs.Ends.{came_in}
 use Rattle.report_replay.specs.declared.verdict.Action.TheVariants as action
-use Rattle.report_replay.proofs.ShortLetters.{letter_short}
 use Rattle.report_replay.proofs.VerdictsDone.{acts-dealt}
 use Rattle.report_replay.proofs.state.State.deal.Goals as goal
 

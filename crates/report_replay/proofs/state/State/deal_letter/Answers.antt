@@ -1,4 +1,4 @@
-use Rattle.std.proofs.Common.{[], ◌∷◌, refl}
+use Rattle.std.proofs.Common.{[], ◌∷◌}
 use Rattle.mc_base.specs.Letter.{plain_letter, saying_of}
 use Rattle.mc_base.specs.Reading.{says_so}
 use Rattle.report_replay.specs.Ends.{came_in, item_by}

@@ -1,6 +1,5 @@
-use Rattle.std.proofs.Common.{◌≡◌, ap, ◌∙◌, ◌∷◌, [], Some, option_map, refl, subst}
+use Rattle.std.proofs.Common.{◌≡◌, ap, ◌∙◌, Some, option_map, refl, subst}
 use Rattle.mc_base.specs.Letter.{plain_letter}
-use Rattle.report_replay.specs.Ends.{kept}
 use Rattle.report_replay.specs.Verdicts.{Follows, Judges, known_of}
 use Rattle.report_replay.specs.Views.{end_of}
 use Rattle.report_replay.specs.contracts.endpoint.Endpoint.{the_view}

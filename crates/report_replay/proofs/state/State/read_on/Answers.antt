@@ -1,8 +1,8 @@
-use Rattle.std.proofs.Common.{◌≡◌, IfOk, OnOk, None, Option, ap, sym, subst, ◌∙◌}
+use Rattle.std.proofs.Common.{◌≡◌, IfOk, Option, ap, sym, subst, ◌∙◌}
 use Rattle.std.specs.Prelude.{◌-◌}
 use Rattle.name_service.specs.Said.{reading_of}
 use Rattle.board_model.specs.Parts.{coming, part_of}
-use Rattle.board_model.specs.State.{DomainState, Part}
+use Rattle.board_model.specs.State.{Part}
 use Rattle.report_replay.specs.Coming.{SaysSo}
 use Rattle.report_replay.specs.Dealt.{shown_less}
 use Rattle.report_replay.specs.Read.{coming_read}

@@ -1,7 +1,6 @@
-use Rattle.std.proofs.Common.{◌≡◌, ℕ, List, map, IfOk, Result, Ok, Err, ap, sym, subst, ◌∙◌, [], ◌∷◌, ◌++◌}
+use Rattle.std.proofs.Common.{ℕ, List, map, IfOk, Result, Ok, Err, ap, sym, subst, ◌∙◌, [], ◌∷◌, ◌++◌}
 use Rattle.mc_base.specs.Letter.{carried}
 use Rattle.mc_base.specs.Reading.{says}
-use Rattle.mc_base.specs.declared.fate.Fate.{Fate}
 use Rattle.name_service.specs.Said.{reading_of}
 use Rattle.board_model.specs.Change.{held_as}
 use Rattle.board_model.specs.State.{Part}
@@ -10,7 +9,6 @@ use Rattle.report_replay.specs.Dealt.{Deals}
 use Rattle.report_replay.specs.Ends.{came_in}
 use Rattle.report_replay.specs.Read.{coming_read}
 use Rattle.report_replay.specs.ShortLetters.{IsShortReading}
-use Rattle.report_replay.specs.declared.part.Says.TheVariants.{Alone, Held, Whole}
 use Rattle.report_replay.proofs.ShortLetters.{short_reading}
 use Rattle.report_replay.proofs.TakenWhole.{Took, took-alone, took-held, took-whole}
 use Rattle.report_replay.proofs.state.State.take.Goals as goal
