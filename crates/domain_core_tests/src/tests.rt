@@ -24,11 +24,13 @@ enum Call {
     Send(u16, u16, u8, u8, usize),
     /// Sends two bytes from a port to a port of domain 4.
     SendAbroad(u16, u16),
+    /// Sends to an endpoint of domain 4 this byte, so often.
+    SendLong(u16, u16, u8, usize),
     /// Receives at a port at most so many bytes, each of which must be this one.
     Receive(u16, usize, u8),
 }
 
-use Call::{Create, Receive, Send, SendAbroad};
+use Call::{Create, Receive, Send, SendAbroad, SendLong};
 
 /// A call, and what it answers: the address, 0 for a message that was sent, or the size of one that was received.
 type Answered = (Call, Result<u32, Refusal>);
@@ -117,6 +119,7 @@ fn made<S: SendEnd, R: RecvEnd>(
             size,
         ),
         SendAbroad(from, to) => sent(domain, journal, from, end_at(4, to), 0, 0, 2),
+        SendLong(from, to, byte, size) => sent(domain, journal, from, end_at(4, to), 0, byte, size),
         Receive(port, max, byte) => received(domain, journal, port, max, byte),
     }
 }
@@ -147,8 +150,8 @@ fn sent<S: SendEnd, R: RecvEnd>(
         domain.turn(journal);
         return None;
     };
-    let content = [byte; 489];
-    let (bytes, _) = content.split_at(size.min(489));
+    let content = [byte; 8193];
+    let (bytes, _) = content.split_at(size.min(8193));
     let from = Local {
         node: 0,
         port: from,
@@ -169,8 +172,8 @@ fn received<S: SendEnd, R: RecvEnd>(
     requires byte_room { 90112 ≤ journal.old.byte_room }
     ensures { Goes (EndsMoved S.Moved R.Moved) domain.old domain.new }
 {
-    let mut buffer = [0xee; 488];
-    let (out, _) = buffer.split_at_mut(max.min(488));
+    let mut buffer = [0xee; 8192];
+    let (out, _) = buffer.split_at_mut(max.min(8192));
     let answer = domain.msg_recv(journal, Local { node: 0, port }, out);
     let given = match answer {
         Ok(got) => got.given as usize,
@@ -235,7 +238,7 @@ const ANSWERS_OF_CALLS: [Answered; 20] = [
     (Send(9, 2, 1, 0, 2), Err(Refusal::EndpInvalid)),
     (Send(1, 9, 1, 0, 2), Err(Refusal::PeerInvalid)),
     (SendAbroad(1, 2), Err(Refusal::PeerInvalid)),
-    (Send(1, 2, 1, 0, 489), Err(Refusal::MsgSize)),
+    (Send(1, 2, 1, 0, 8193), Err(Refusal::MsgSize)),
     (Receive(9, 488, 0), Err(Refusal::EndpInvalid)),
     (Receive(2, 488, 0), Err(Refusal::Empty)),
     (Send(1, 2, 0, 0, 0), Ok(0)),
@@ -275,14 +278,44 @@ const MESSAGES_APART: [Answered; 12] = [
     (Receive(2, 488, 0), Err(Refusal::Empty)),
 ];
 
+/// A message goes in frames of 484 bytes where it has more than 488, and all are put or none.
+const LARGE_MESSAGES: [Answered; 14] = [
+    (Create(0, 1), Ok(1024)),
+    (Create(0, 2), Ok(1025)),
+    (Send(1, 2, 0, 7, 1000), Ok(0)),
+    (Send(1, 2, 0, 8, 1000), Err(Refusal::NoBuffer)),
+    (Send(1, 2, 0, 8, 1937), Err(Refusal::MsgSize)),
+    (Send(1, 2, 0, 8, 489), Err(Refusal::NoBuffer)),
+    (Send(1, 2, 0, 9, 488), Ok(0)),
+    (Receive(2, 8192, 7), Ok(1000)),
+    (Send(2, 1, 3, 6, 1452), Ok(0)),
+    (Receive(1, 700, 6), Ok(1452)),
+    (Receive(2, 8192, 9), Ok(488)),
+    (Send(2, 2, 1, 5, 1936), Ok(0)),
+    (Receive(2, 8192, 5), Ok(1936)),
+    (Receive(2, 8192, 0), Err(Refusal::Empty)),
+];
+
+/// A turn takes eight frames at most, and the message is there with its seventeenth.
+const LARGEST_MESSAGE: [Answered; 6] = [
+    (Create(0, 1), Ok(1024)),
+    (Send(1, 1, 2, 3, 8193), Err(Refusal::MsgSize)),
+    (Send(1, 1, 2, 3, 8192), Ok(0)),
+    (Send(1, 1, 2, 4, 0), Err(Refusal::NoBuffer)),
+    (Receive(1, 8192, 0), Err(Refusal::Empty)),
+    (Receive(1, 8192, 3), Ok(8192)),
+];
+
 /// A name, the nodes of a new domain, the buffers of its pool, the rows, and how many messages are queued in the end, each in a buffer of
 /// the domain's own.
 type Case = (&'static str, u8, u32, &'static [Answered], u32);
 
-static CASES: [Case; 3] = [
+static CASES: [Case; 5] = [
     ("each answer of a call", 2, 2, &ANSWERS_OF_CALLS, 0),
     ("the best priority comes first", 1, 4, &FOUR_PRIORITIES, 1),
     ("each message keeps its own bytes", 1, 2, &MESSAGES_APART, 0),
+    ("messages of several frames", 1, 4, &LARGE_MESSAGES, 0),
+    ("the largest message", 1, 17, &LARGEST_MESSAGE, 0),
 ];
 
 /// Whether so many messages are queued, and nothing is held of a domain to which there is no lane.

@@ -12,6 +12,7 @@ mod eight_linked;
 mod failing;
 mod frame;
 mod images;
+mod large;
 mod linked;
 mod loads;
 mod payloads;
@@ -227,6 +228,18 @@ fn comes_out<T: Threads + Wait + Sync>(
 ) -> Result<bool, AllocError> {
     let (answer, output) = outcome_of(rt, alloc, given)?;
     Ok(answer == status && output.written() == written)
+}
+
+/// The lines of a report that begin with one of these words.
+fn lines_of(alloc: Global, report: &[u8], fronts: &[&[u8]]) -> Result<Vec<u8>, AllocError> {
+    let mut lines = Vec::new(alloc);
+    for line in report.split(|byte| *byte == b'\n') {
+        if fronts.iter().any(|front| line.starts_with(front)) {
+            lines.extend_from_slice(line)?;
+            lines.push(b'\n')?;
+        }
+    }
+    Ok(lines)
 }
 
 /// Whether a report is right.

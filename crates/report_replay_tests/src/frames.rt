@@ -91,14 +91,14 @@ fn frames_have_the_words_that_the_state_has_for_them(rt: HostRuntime) -> Result<
 }
 
 static PARTS: [Row; 4] = [
-    (1, FIRST_PART, Fate::Stray),
     (1, SECOND_PART, Fate::Stray),
-    (1, WHOLE_PART, Fate::Stray),
-    (1, MESSAGE, Fate::NoEndpoint),
+    (1, FIRST_PART, Fate::Part),
+    (1, SECOND_PART, Fate::NoEndpoint),
+    (1, WHOLE_PART, Fate::NoEndpoint),
 ];
 
 #[test]
-fn parts_are_stray(rt: HostRuntime) -> Result<(), Fail> {
+fn a_part_begins_with_the_first_bytes_alone(rt: HostRuntime) -> Result<(), Fail> {
     let mut state = opened(rt.alloc())?;
     assert!(rt; state.look_ahead(1, 4) == 4);
     assert_words(&rt, rt.alloc(), &mut state, &PARTS)?;

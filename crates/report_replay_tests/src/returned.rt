@@ -4,8 +4,8 @@ ghost use Rattle.std.specs.Prelude.{IfOk};
 ghost use Rattle.board_model.proofs.StateEnds.{Ends};
 
 use arrayvec::ArrayVec;
-use mc_base::{Bits, Fate, Kind, NoMemory, Priority, Side};
-use report_replay::{Carrier, DomainCall, FrameNames, Part, State};
+use mc_base::{Bits, Fate, Kind, NoMemory, Side};
+use report_replay::{DomainCall, FrameNames, State};
 use std::alloc::Global;
 use std::process::Abort;
 use std::test::Fail;
@@ -36,8 +36,18 @@ const SCALAR: &[u8] = &[
     6, 4, 0, 0, 0, 4, 0, 0, 0, 0, 0, 0, 9, 0, 0, 0, 0x4d, 1, 8, 1, 1, 0, 0, 0, 0xab,
 ];
 
-/// Parts of a message of six bytes and priority 1 from address 1030 of domain 1 to address 1024: the fifth byte, the sixth, both, both of another
-/// priority, and the first two.
+/// Parts of a message of six bytes and priority 1 from address 1030 of domain 1 to address 1024: the first two bytes, the next two, the fifth,
+/// the sixth, the last two, and the last two of another priority.
+const FIRST_TWO: &[u8] = &[
+    6, 4, 0, 0, 0, 4, 0, 0, 0, 0, 0, 0, 14, 0, 0, 0, 0x4d, 2, 1, 1, 0, 0, 0, 0, 6, 0, 0, 0, 0x01,
+    0x02,
+];
+
+const NEXT_TWO: &[u8] = &[
+    6, 4, 0, 0, 0, 4, 0, 0, 0, 0, 0, 0, 14, 0, 0, 0, 0x4d, 2, 1, 1, 0, 0, 0, 0, 6, 0, 2, 0, 0x03,
+    0x04,
+];
+
 const FIFTH: &[u8] = &[
     6, 4, 0, 0, 0, 4, 0, 0, 0, 0, 0, 0, 13, 0, 0, 0, 0x4d, 2, 1, 1, 0, 0, 0, 0, 6, 0, 4, 0, 0x05,
 ];
@@ -56,8 +66,9 @@ const OTHER_TWO: &[u8] = &[
     0x06,
 ];
 
-const FIRST_TWO: &[u8] = &[
-    6, 4, 0, 0, 0, 4, 0, 0, 0, 0, 0, 0, 14, 0, 0, 0, 0x4d, 2, 1, 1, 0, 0, 0, 0, 6, 0, 0, 0, 0x01,
+/// A part of two bytes that is the whole message.
+const BOTH: &[u8] = &[
+    6, 4, 0, 0, 0, 4, 0, 0, 0, 0, 0, 0, 14, 0, 0, 0, 0x4d, 2, 1, 1, 0, 0, 0, 0, 2, 0, 0, 0, 0x01,
     0x02,
 ];
 
@@ -91,8 +102,6 @@ enum Event {
     Came(u32, &'static [u8], Fate),
     /// The buffers of these frames of a domain came back so far.
     Back(u8, &'static [u32]),
-    /// Four bytes of the message of six are in the open part of domain 1, which frames 3 and 4 brought.
-    Opened,
     /// So many buffers of the lane from domain 1 are held, in queues and in its open part.
     Queued(u64),
 }
@@ -100,7 +109,7 @@ enum Event {
 use Call::{
     Close, Delete, Open, Receive, ReceiveByte, Release, Request, RequestPacket, Test, Wait,
 };
-use Event::{Back, Came, Made, Opened, Queued};
+use Event::{Back, Came, Made, Queued};
 
 fn call_of(call: Call) -> DomainCall<'static> {
     match call {
@@ -172,22 +181,6 @@ fn take(
     state.take(alloc, 1, Some(name), frame, names)
 }
 
-/// Opens the part of domain 1.
-fn open_part(state: &mut State, alloc: Global) -> Result<(), NoMemory>
-    requires { Ends state.old }
-    ensures { IfOk result (λ done. Ends state.new) }
-{
-    let carrier = match Priority::new(1) {
-        Some(priority) => Carrier::Message(priority),
-        None => Carrier::Packet(1),
-    };
-    let Ok(content) = Vec::from_slice(alloc, &[1, 2, 3, 4]) else {
-        return Err(NoMemory);
-    };
-    let part = Part::new(1030, 1024, carrier, 6, content);
-    state.open_part(1, part, &[3, 4])
-}
-
 /// Domain 0 with one node and an endpoint, whose lanes to itself have two buffers, and to domain 1 eight.
 fn opened(alloc: Global, names: &mut FrameNames) -> Result<State, NoMemory>
     ensures { IfOk result (λ state. Ends state) }
@@ -211,10 +204,6 @@ fn happens(
         Made(call) => make(state, alloc, &call_of(call), names),
         Came(name, frame, word) => Ok(take(state, alloc, name, frame, names)? == word),
         Back(peer, due) => Ok(names.from_peer(peer) == due),
-        Opened => {
-            open_part(state, alloc)?;
-            Ok(true)
-        }
         Queued(count) => Ok(state.queued_from(1) == count),
     }
 }
@@ -320,8 +309,9 @@ fn scalars_are_given_back_as_they_are_received_and_by_the_close(
     assert_all(&rt, rt.alloc(), &SCALARS_RECEIVED)
 }
 
-static WHOLE_DELETED: [Event; 6] = [
-    Opened,
+static WHOLE_DELETED: [Event; 7] = [
+    Came(3, FIRST_TWO, Fate::Part),
+    Came(4, NEXT_TWO, Fate::Part),
     Queued(2),
     Came(5, LAST_TWO, Fate::Queued),
     Queued(3),
@@ -334,9 +324,10 @@ fn a_delete_drops_a_message_of_several_frames(rt: HostRuntime) -> Result<(), Fai
     assert_all(&rt, rt.alloc(), &WHOLE_DELETED)
 }
 
-static WHOLE_HANDED: [Event; 9] = [
+static WHOLE_HANDED: [Event; 10] = [
     Made(Request),
-    Opened,
+    Came(3, FIRST_TWO, Fate::Part),
+    Came(4, NEXT_TWO, Fate::Part),
     Came(5, FIFTH, Fate::Part),
     Queued(3),
     Back(1, &[]),
@@ -351,8 +342,9 @@ fn a_message_is_handed_once_it_is_whole(rt: HostRuntime) -> Result<(), Fail> {
     assert_all(&rt, rt.alloc(), &WHOLE_HANDED)
 }
 
-static PART_ENDED: [Event; 6] = [
-    Opened,
+static PART_ENDED: [Event; 7] = [
+    Came(3, FIRST_TWO, Fate::Part),
+    Came(4, NEXT_TWO, Fate::Part),
     Came(5, LATE, Fate::Queued),
     Back(1, &[3, 4]),
     Queued(1),
@@ -365,12 +357,16 @@ fn another_frame_ends_the_open_part(rt: HostRuntime) -> Result<(), Fail> {
     assert_all(&rt, rt.alloc(), &PART_ENDED)
 }
 
-static STRAY: [Event; 5] = [
-    Opened,
+static STRAY: [Event; 9] = [
+    Came(3, FIRST_TWO, Fate::Part),
+    Came(4, NEXT_TWO, Fate::Part),
     Came(5, OTHER_TWO, Fate::Stray),
     Back(1, &[3, 4, 5]),
-    Opened,
-    Came(6, FIRST_TWO, Fate::Stray),
+    Came(6, FIRST_TWO, Fate::Part),
+    Came(7, FIRST_TWO, Fate::Part),
+    Back(1, &[3, 4, 5, 6]),
+    Came(8, BOTH, Fate::Queued),
+    Back(1, &[3, 4, 5, 6, 7]),
 ];
 
 #[test]
@@ -378,9 +374,10 @@ fn a_piece_of_another_message_ends_the_open_part(rt: HostRuntime) -> Result<(), 
     assert_all(&rt, rt.alloc(), &STRAY)
 }
 
-static WHOLE_DROPPED: [Event; 4] = [
+static WHOLE_DROPPED: [Event; 5] = [
     Made(Delete),
-    Opened,
+    Came(3, FIRST_TWO, Fate::Part),
+    Came(4, NEXT_TWO, Fate::Part),
     Came(5, LAST_TWO, Fate::NoEndpoint),
     Back(1, &[3, 4, 5]),
 ];

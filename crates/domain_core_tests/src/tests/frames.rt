@@ -26,9 +26,11 @@ enum Given {
     Port(u8, u32),
     /// A letter from address 1030 to an address: its kind, argument and channel, and its content of two bytes at most.
     Sent(u32, u8, u8, u8, &'static [u8]),
+    /// A fragment from address 1030 to an address: its kind, its argument, its total and its offset, and 7 twice.
+    Fragment(u32, u8, u8, u16, u16),
 }
 
-use Given::{Frame, Name, Port, Sent};
+use Given::{Fragment, Frame, Name, Port, Sent};
 
 /// A frame to the name service with an announcement.
 fn announced(name: &[u8], addr: u32, flags: u8) -> [u8; 56] {
@@ -68,6 +70,23 @@ fn lettered(to: u32, kind: u8, argument: u8, channel: u8, content: &[u8]) -> [u8
     frame
 }
 
+/// A frame with a fragment of two bytes. Those of packets are of channel 1.
+fn fragment(to: u32, kind: u8, argument: u8, total: u16, offset: u16) -> [u8; 30] {
+    let mut frame = [7; 30];
+    LittleEndian::write_u32(&mut frame, 1030);
+    LittleEndian::write_u32(&mut frame[4..], to);
+    LittleEndian::write_u32(&mut frame[8..], 0);
+    LittleEndian::write_u32(&mut frame[12..], 14);
+    frame[16] = 0x4d;
+    frame[17] = 2;
+    frame[18] = kind;
+    frame[19] = argument;
+    LittleEndian::write_u32(&mut frame[20..], u32::from(kind == PACKET));
+    LittleEndian::write_u16(&mut frame[24..], total);
+    LittleEndian::write_u16(&mut frame[26..], offset);
+    frame
+}
+
 /// A lane from domain 1, on which frames have come that no look showed yet.
 #[derive(Drop)]
 struct Feed {
@@ -95,6 +114,9 @@ impl Feed {
                 Port(port, addr) => self.give(&port_announced(port, addr)),
                 Sent(to, kind, argument, channel, content) => {
                     self.give(&lettered(to, kind, argument, channel, content));
+                }
+                Fragment(to, kind, argument, total, offset) => {
+                    self.give(&fragment(to, kind, argument, total, offset));
                 }
             }
         }
@@ -229,14 +251,14 @@ fn looked_up(noted: &mut Noted, port: u16) -> Result<RequestId, Fail> {
 
 /// How a request ends, of which no bytes come.
 fn end_of(noted: &mut Noted, id: RequestId) -> Result<Result<Done, Refusal>, NoMemory> {
-    let mut out = [0; 488];
+    let mut out = [0; 8192];
     noted.journal.reserve(176, 90_112)?;
     Ok(noted.domain.test(&mut noted.journal, id, &mut out))
 }
 
 /// Frames of each kind. The endpoint is there when the ninth is taken. A static, since a constant's byte strings are proved
 /// again in each function that names it.
-static DEALT: [Row; 35] = [
+static DEALT: [Row; 32] = [
     (
         Frame(b"\x00\x04\x00\x00\x00\x04\x00\x00\x00\x00\x00\x00\x00\x00\x00"),
         Fate::FrameShort,
@@ -334,30 +356,12 @@ static DEALT: [Row; 35] = [
         ),
         Fate::Queued,
     ),
-    // A part without bytes, the two parts of a message of four bytes, and the first of a packet. No part is begun.
+    // A fragment without bytes.
     (
         Frame(
             b"\x06\x04\x00\x00\x00\x04\x00\x00\x00\x00\x00\x00\x0c\x00\x00\x00\x4d\x02\x01\x01\x00\x00\x00\x00\x04\x00\x00\x00",
         ),
         Fate::Size,
-    ),
-    (
-        Frame(
-            b"\x06\x04\x00\x00\x00\x04\x00\x00\x00\x00\x00\x00\x0e\x00\x00\x00\x4d\x02\x01\x01\x00\x00\x00\x00\x04\x00\x00\x00\x07\x07",
-        ),
-        Fate::Stray,
-    ),
-    (
-        Frame(
-            b"\x06\x04\x00\x00\x00\x04\x00\x00\x00\x00\x00\x00\x0e\x00\x00\x00\x4d\x02\x01\x01\x00\x00\x00\x00\x04\x00\x02\x00\x07\x07",
-        ),
-        Fate::Stray,
-    ),
-    (
-        Frame(
-            b"\x06\x04\x00\x00\x00\x04\x00\x00\x00\x00\x00\x00\x0e\x00\x00\x00\x4d\x02\x07\x00\x01\x00\x00\x00\x04\x00\x00\x00\x07\x07",
-        ),
-        Fate::Stray,
     ),
     // Reserved bytes, flags and what lies behind the payload do not matter.
     (
@@ -397,6 +401,87 @@ fn each_frame_has_its_word(rt: HostRuntime) -> Result<(), Fail> {
     assert_of(Noted::open(rt.alloc(), &DEALT), |noted| {
         assert_dealt(&rt, noted, &DEALT)?;
         assert_left(&rt, noted)
+    })
+}
+
+/// The kinds of messages and of packets, in a fragment.
+const MESSAGE: u8 = 1;
+
+const PACKET: u8 = 7;
+
+/// Fragments of messages and packets. The endpoint of address 1024 is there when the ninth frame is taken, and it has no channel.
+static FRAGMENTS: [Row; 38] = [
+    // Each second fragment doesn't continue the first: no part is open, or it has another total, offset, argument, kind or receiver.
+    (Fragment(1024, MESSAGE, 1, 4, 2), Fate::Stray),
+    (Fragment(1024, MESSAGE, 1, 4, 0), Fate::Part),
+    (Fragment(1024, MESSAGE, 1, 6, 2), Fate::Stray),
+    (Fragment(1024, MESSAGE, 1, 4, 2), Fate::Stray),
+    (Fragment(1024, MESSAGE, 1, 6, 0), Fate::Part),
+    (Fragment(1024, MESSAGE, 1, 6, 4), Fate::Stray),
+    (Fragment(1024, MESSAGE, 1, 6, 0), Fate::Part),
+    (Fragment(1024, MESSAGE, 2, 6, 2), Fate::Stray),
+    (Fragment(1024, MESSAGE, 1, 6, 0), Fate::Part),
+    (Fragment(1024, PACKET, 0, 6, 2), Fate::Stray),
+    (Fragment(1024, MESSAGE, 1, 6, 0), Fate::Part),
+    (Fragment(1025, MESSAGE, 1, 6, 2), Fate::Stray),
+    // A first fragment that comes again begins anew.
+    (Fragment(1024, MESSAGE, 1, 6, 0), Fate::Part),
+    (Fragment(1024, MESSAGE, 1, 6, 0), Fate::Part),
+    (Fragment(1024, MESSAGE, 1, 6, 2), Fate::Part),
+    (Fragment(1024, MESSAGE, 1, 6, 4), Fate::Queued),
+    (Fragment(1024, MESSAGE, 1, 6, 4), Fate::Stray),
+    // A frame with a fault, an announcement, a message and a RecvOpen each end the open part.
+    (Fragment(1024, MESSAGE, 1, 4, 0), Fate::Part),
+    (Frame(b"a"), Fate::FrameShort),
+    (Fragment(1024, MESSAGE, 1, 4, 2), Fate::Stray),
+    (Fragment(1024, MESSAGE, 1, 4, 0), Fate::Part),
+    (Name(b"mcapi:1:0:1", 1030, 0), Fate::Acted),
+    (Fragment(1024, MESSAGE, 1, 4, 2), Fate::Stray),
+    (Fragment(1024, MESSAGE, 1, 4, 0), Fate::Part),
+    (Sent(1024, MESSAGE, 1, 0, b"\x07"), Fate::Queued),
+    (Fragment(1024, MESSAGE, 1, 4, 2), Fate::Stray),
+    (Fragment(1024, MESSAGE, 1, 4, 0), Fate::Part),
+    (Sent(1024, 5, 0, 1, b""), Fate::State),
+    (Fragment(1024, MESSAGE, 1, 4, 2), Fate::Stray),
+    // The word of a whole item is that of its kind and receiver: a packet has no channel, and a message no endpoint.
+    (Fragment(1024, PACKET, 0, 4, 0), Fate::Part),
+    (Fragment(1024, PACKET, 0, 4, 2), Fate::State),
+    (Fragment(1025, MESSAGE, 0, 4, 0), Fate::Part),
+    (Fragment(1025, MESSAGE, 0, 4, 2), Fate::NoEndpoint),
+    // An item of one fragment, and an open part that is left in the end.
+    (Fragment(1024, MESSAGE, 0, 2, 0), Fate::Queued),
+    (Fragment(1024, MESSAGE, 0, 8, 0), Fate::Part),
+    (Fragment(1024, MESSAGE, 0, 8, 2), Fate::Part),
+    (Fragment(1024, MESSAGE, 0, 8, 4), Fate::Part),
+    (Fragment(1024, MESSAGE, 0, 8, 5), Fate::Stray),
+];
+
+const RECEIVED_OF_FRAGMENTS: [Answered; 4] = [
+    (Receive(1, 488, 7), Ok(2)),
+    (Receive(1, 488, 7), Ok(6)),
+    (Receive(1, 488, 7), Ok(1)),
+    (Receive(1, 488, 0), Err(Refusal::Empty)),
+];
+
+/// Asserts which messages came of the fragments, and that no other buffer is held.
+fn assert_joined(rt: &impl Abort, noted: &mut Noted) -> Result<(), Fail> {
+    assert!(rt; noted.domain.places(1) == Some(Places { queue: 5, lent: 0 }));
+    assert_answers(
+        rt,
+        &mut noted.domain,
+        &mut noted.journal,
+        "what came of fragments",
+        &RECEIVED_OF_FRAGMENTS,
+    )?;
+    assert!(rt; noted.domain.places(1) == Some(Places { queue: 0, lent: 0 }));
+    Ok(())
+}
+
+#[test]
+fn each_fragment_has_its_word(rt: HostRuntime) -> Result<(), Fail> {
+    assert_of(Noted::open(rt.alloc(), &FRAGMENTS), |noted| {
+        assert_dealt(&rt, noted, &FRAGMENTS)?;
+        assert_joined(&rt, noted)
     })
 }
 

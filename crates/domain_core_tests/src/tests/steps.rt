@@ -197,8 +197,8 @@ pub fn stepped<S: SendEnd, R: RecvEnd>(
             Ok(Some(done(answer)))
         }
         SendPacket(port, byte, size) => {
-            let content = [byte; 489];
-            let (bytes, _) = content.split_at(size.min(489));
+            let content = [byte; 8193];
+            let (bytes, _) = content.split_at(size.min(8193));
             let answer = domain.pkt_send(journal, Local { node: 0, port }, bytes);
             Ok(Some(done(answer)))
         }
@@ -378,7 +378,7 @@ fn tested<S: SendEnd, R: RecvEnd>(
     requires byte_room { 90112 ≤ journal.old.byte_room }
     ensures { Goes (EndsMoved S.Moved R.Moved) domain.old domain.new }
 {
-    let mut out = [0xee; 488];
+    let mut out = [0xee; 8192];
     let answer = domain.test(journal, id, &mut out);
     ended(domain, answer, &out, byte)
 }
@@ -395,7 +395,7 @@ fn waited<S: SendEnd, R: RecvEnd>(
     requires byte_room { 90112 ≤ journal.old.byte_room }
     ensures { Goes (EndsMoved S.Moved R.Moved) domain.old domain.new }
 {
-    let mut out = [0xee; 488];
+    let mut out = [0xee; 8192];
     let answer = domain.wait(journal, 7, id, limit, &mut out);
     ended_wait(domain, answer, &out, byte)
 }
@@ -414,7 +414,7 @@ fn waited_any<S: SendEnd, R: RecvEnd>(
     requires byte_room { 90112 ≤ journal.old.byte_room }
     ensures { Goes (EndsMoved S.Moved R.Moved) domain.old domain.new }
 {
-    let mut out = [0xee; 488];
+    let mut out = [0xee; 8192];
     let answer = domain.wait_any(journal, 7, ids, limit, &mut out);
     ended_at(domain, answer, place, &out, byte)
 }

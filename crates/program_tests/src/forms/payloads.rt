@@ -7,7 +7,7 @@ use std::test::Fail;
 use std::thread::Threads;
 
 /// A text as pieces, each with how often it stands.
-type Pieces<'a> = &'a [(&'a str, usize)];
+pub(super) type Pieces<'a> = &'a [(&'a str, usize)];
 
 /// All before the 488 bytes of a message of priority 2.
 const LONG_MESSAGE: &str = "00040000 01040000 00000000 f001 0000 4d01010200000000";
@@ -27,7 +27,7 @@ fn extend(text: &mut Vec<u8>, pieces: Pieces<'_>) -> Result<(), AllocError> {
     Ok(())
 }
 
-fn joined(alloc: Global, pieces: Pieces<'_>) -> Result<Vec<u8>, AllocError> {
+pub(super) fn joined(alloc: Global, pieces: Pieces<'_>) -> Result<Vec<u8>, AllocError> {
     let mut text = Vec::new(alloc);
     extend(&mut text, pieces)?;
     Ok(text)
@@ -449,7 +449,7 @@ fn message_of(alloc: Global, size: usize) -> Result<Vec<u8>, AllocError> {
     Ok(text)
 }
 
-/// The end of the report of a message that fits no frame.
+/// The end of the report of a message that is too long for its lane.
 const TOO_LONG_A_MESSAGE: &[u8] = b"
 idle 1
 call 2 msg_size
@@ -458,7 +458,7 @@ lane 0 0 free 1 ring 0 queue 0 lent 0
 end
 ";
 
-/// A message of 9,000 bytes is a scenario's, though it fits no frame; one of 9,001 is in none.
+/// A message of 9,000 bytes is a scenario's, though no call sends it; one of 9,001 is in none.
 #[test]
 fn longest_message(rt: HostRuntime) -> Result<(), Fail> {
     let alloc = rt.alloc();

@@ -1,6 +1,6 @@
 //! Requests end to end: texts of scenarios, and what the report tells of their calls.
 
-use super::{MESSAGE, comes_out, ends_with, outcome_of, serial};
+use super::{MESSAGE, comes_out, ends_with, lines_of, outcome_of, serial};
 use std::alloc::{AllocError, Global};
 use std::sync::Wait;
 use std::test::Fail;
@@ -221,18 +221,6 @@ call 9 request_invalid
     end: b"messages accepted 0 taken 0 dropped 0 queued 0 ring 0\nlane 0 0 free 4 ring 0 queue 0 lent 0\nend\n",
 };
 
-/// The lines of a report that tell calls.
-fn calls_in(alloc: Global, report: &[u8]) -> Result<Vec<u8>, AllocError> {
-    let mut calls = Vec::new(alloc);
-    for line in report.split(|byte| *byte == b'\n') {
-        if line.starts_with(b"call ") {
-            calls.extend_from_slice(line)?;
-            calls.push(b'\n')?;
-        }
-    }
-    Ok(calls)
-}
-
 pub(super) fn joined(alloc: Global, first: &[u8], rest: &[u8]) -> Result<Vec<u8>, AllocError> {
     let mut all = Vec::from_slice(alloc, first)?;
     all.extend_from_slice(rest)?;
@@ -248,7 +236,7 @@ pub(super) fn reports<T: Threads + Wait + Sync>(
     end: &[u8],
 ) -> Result<bool, AllocError> {
     let (status, output) = outcome_of(rt, alloc, serial(text))?;
-    let calls = calls_in(alloc, output.written())?;
+    let calls = lines_of(alloc, output.written(), &[b"call "])?;
     Ok(status == 0 && calls.as_slice() == due && output.written().ends_with(end))
 }
 
@@ -300,14 +288,14 @@ fn extend_by_message(text: &mut Vec<u8>, size: usize) -> Result<(), AllocError> 
     Ok(())
 }
 
-/// Sends messages of no byte, 488 and 489, and receives one.
+/// Sends messages of no byte, 488 and 8,193, and receives one.
 fn messages_of_sizes(alloc: Global) -> Result<Vec<u8>, AllocError> {
     let mut text = Vec::from_slice(
         alloc,
         b"domain 0 nodes 1 pool 2\n0.0 create 1\n0.0 create 2\n0.0 msg_send 1 0:0:2 0 -\n",
     )?;
     extend_by_message(&mut text, 488)?;
-    extend_by_message(&mut text, 489)?;
+    extend_by_message(&mut text, 8193)?;
     text.extend_from_slice(b"0.0 msg_recv 2 488\n")?;
     Ok(text)
 }
@@ -315,7 +303,7 @@ fn messages_of_sizes(alloc: Global) -> Result<Vec<u8>, AllocError> {
 const CALLS_OF_SIZES: &[u8] =
     b"call 1 ok 1024\ncall 2 ok 1025\ncall 3 ok\ncall 4 ok\ncall 5 msg_size\ncall 6 ok 0 -\n";
 
-/// A message has at most 488 bytes, and may have none.
+/// A message has at most 8,192 bytes, and may have none.
 #[test]
 fn sizes_of_messages(rt: HostRuntime) -> Result<(), Fail> {
     let text = messages_of_sizes(rt.alloc())?;
@@ -362,7 +350,7 @@ fn ends_with_calls<T: Threads + Wait + Sync>(
     last: &[u8],
 ) -> Result<bool, AllocError> {
     let (status, output) = outcome_of(rt, alloc, serial(text))?;
-    let calls = calls_in(alloc, output.written())?;
+    let calls = lines_of(alloc, output.written(), &[b"call "])?;
     Ok(status == 0 && calls.ends_with(last))
 }
 

@@ -85,10 +85,34 @@ const HANDED: [Row; 19] = [
     (FourHolds(3), Ok(Held(0, 0))),
 ];
 
-static CASES: [Case; 4] = [
+/// A message of several frames is put whole or not at all, and its buffers come back once it is received.
+const LARGE: [Row; 15] = [
+    (Four(Plain(Create(0, 1))), Ok(Number(1024))),
+    (Four(Turn), Ok(Idle(false))),
+    CARRIED,
+    (Three(Plain(Create(0, 1))), Ok(Number(1024))),
+    // The announcement of the own endpoint takes one of the four buffers.
+    (Three(Plain(SendLong(1, 1, 7, 1937))), Err(Refusal::MsgSize)),
+    (
+        Three(Plain(SendLong(1, 1, 7, 1936))),
+        Err(Refusal::NoBuffer),
+    ),
+    (Three(Plain(SendLong(1, 1, 7, 1000))), Ok(Number(0))),
+    CARRIED,
+    (Four(Turn), Ok(Idle(false))),
+    (FourHolds(3), Ok(Held(3, 0))),
+    (Four(Available(1)), Ok(Number(1))),
+    (Four(Plain(Receive(1, 8192, 7))), Ok(Number(1000))),
+    CARRIED,
+    (Three(Plain(SendLong(1, 1, 8, 1936))), Ok(Number(0))),
+    (FourHolds(3), Ok(Held(0, 0))),
+];
+
+static CASES: [Case; 5] = [
     ("a link of two runs out of buffers", 2, &FULL),
     ("owed frames come before messages", 2, &FULL_OF_OWED),
     ("messages over links of one buffer", 1, &ONE_BUFFER),
+    ("a message of several frames", 4, &LARGE),
     (
         "a receive that waits gets the message of a link",
         2,

@@ -58,27 +58,49 @@ const SLOW: [Row; 15] = [
 
 /// Packets of the least and the greatest size, which are dropped where the receiver closes.
 const PACKETS: [Row; 6] = [
-    (SendPacket(1, 7, 489), Err(Refusal::PktSize), NONE_HELD),
+    (SendPacket(1, 7, 8193), Err(Refusal::PktSize), NONE_HELD),
     (SendPacket(1, 7, 0), Ok(Number(0)), NONE_HELD),
     (CloseRecv(2), Ok(Number(1)), NONE_HELD),
-    (SendPacket(1, 7, 489), Err(Refusal::ChanClosed), NONE_HELD),
+    (SendPacket(1, 7, 8193), Err(Refusal::ChanClosed), NONE_HELD),
     (CloseSend(1), Ok(Number(0)), NONE_HELD),
-    (SendPacket(1, 7, 489), Err(Refusal::NotConnected), NONE_HELD),
+    (
+        SendPacket(1, 7, 8193),
+        Err(Refusal::NotConnected),
+        NONE_HELD,
+    ),
 ];
 
-const LONG_PACKETS: [Row; 5] = [
+const LONG_PACKETS: [Row; 6] = [
     (SendPacket(1, 7, 488), Ok(Number(0)), NONE_HELD),
     (SendPacket(1, 8, 488), Ok(Number(0)), ONE_QUEUED),
-    (SendPacket(1, 9, 489), Err(Refusal::PktSize), TWO_QUEUED),
+    (SendPacket(1, 9, 969), Err(Refusal::PktSize), TWO_QUEUED),
+    (SendPacket(1, 9, 968), Err(Refusal::NoBuffer), TWO_QUEUED),
     (SendPacket(1, 9, 488), Err(Refusal::NoBuffer), TWO_QUEUED),
     (Delete(0, 2), Err(Refusal::ChanConnected), TWO_QUEUED),
+];
+
+/// A packet of several frames is lent in all their buffers, and released by one id.
+const LARGE_PACKETS: [Row; 13] = [
+    (SendPacket(1, 7, 1000), Ok(Number(0)), NONE_HELD),
+    (SendPacket(1, 8, 489), Err(Refusal::NoBuffer), (3, 0)),
+    (SendPacket(1, 8, 1937), Err(Refusal::PktSize), (3, 0)),
+    (ReceivePacket(2, 7), Ok(Lent(0, 0, 1000)), (0, 3)),
+    (ReadPacket(0, 0, 7), Ok(Lent(0, 0, 1000)), (0, 3)),
+    (SendPacket(1, 8, 489), Err(Refusal::NoBuffer), (0, 3)),
+    (Release(0, 0), Ok(Number(0)), NONE_HELD),
+    (SendPacket(1, 8, 1936), Ok(Number(0)), NONE_HELD),
+    (BeginPacket(2), Ok(Number(1)), (0, 4)),
+    (Test(1, 8), Ok(Lent(3, 1, 1936)), (0, 4)),
+    (Release(3, 1), Ok(Number(0)), NONE_HELD),
+    (SendPacket(1, 9, 489), Ok(Number(0)), NONE_HELD),
+    (CloseRecv(2), Ok(Number(1)), NONE_HELD),
 ];
 
 /// Each refusal stands before the next, on the way to an open channel of scalars.
 const REFUSED: [Row; 22] = [
     (SendScalar(1, Byte(0)), Err(Refusal::EndpInvalid), NONE_HELD),
     (ReceiveScalar(1, B8), Err(Refusal::EndpInvalid), NONE_HELD),
-    (SendPacket(1, 0, 489), Err(Refusal::EndpInvalid), NONE_HELD),
+    (SendPacket(1, 0, 8193), Err(Refusal::EndpInvalid), NONE_HELD),
     (Plain(Create(0, 1)), Ok(Number(1024)), NONE_HELD),
     (Plain(Create(0, 2)), Ok(Number(1025)), NONE_HELD),
     (
@@ -87,7 +109,11 @@ const REFUSED: [Row; 22] = [
         NONE_HELD,
     ),
     (ReceiveScalar(1, B8), Err(Refusal::NotConnected), NONE_HELD),
-    (SendPacket(1, 0, 489), Err(Refusal::NotConnected), NONE_HELD),
+    (
+        SendPacket(1, 0, 8193),
+        Err(Refusal::NotConnected),
+        NONE_HELD,
+    ),
     (Connect(1, 3, 2, Scalar), Ok(Connected(0, 1)), NONE_HELD),
     (ReceiveScalar(1, B8), Err(Refusal::NotConnected), NONE_HELD),
     (Test(0, 0), Ok(Accepted), NONE_HELD),
@@ -98,11 +124,11 @@ const REFUSED: [Row; 22] = [
         NONE_HELD,
     ),
     (
-        SendPacket(2, 0, 489),
+        SendPacket(2, 0, 8193),
         Err(Refusal::ChanDirection),
         NONE_HELD,
     ),
-    (SendPacket(1, 0, 489), Err(Refusal::ChanType), NONE_HELD),
+    (SendPacket(1, 0, 8193), Err(Refusal::ChanType), NONE_HELD),
     (SendScalar(1, Byte(0)), Err(Refusal::NotOpen), NONE_HELD),
     (ReceiveScalar(2, B8), Err(Refusal::NotOpen), NONE_HELD),
     (OpenSend(1, Scalar), Ok(Number(0)), NONE_HELD),
@@ -154,8 +180,8 @@ const REQUESTED: [Row; 13] = [
     (BeginPacket(2), Err(Refusal::ChanClosed), NONE_HELD),
 ];
 
-/// Sends 64 packets of one byte, each of which is received and stays lent. The frames that opened the channel used the
-/// first four buffers, and a lane's buffers go round.
+/// Sends 64 packets, each of which is received and stays lent. The frames that opened the channel used the first four buffers of
+/// the pool, and a lane's buffers go round.
 fn assert_all_lent(rt: &impl Abort, lone: &mut Lone) -> Result<(), Fail> {
     for n in 0..64 {
         let before = (0, u32::from(n));
@@ -221,7 +247,7 @@ const SENDER_CLOSES: [Row; 9] = [
     (Release(0, 0), Ok(Number(0)), NONE_HELD),
 ];
 
-static CASES: [Case; 8] = [
+static CASES: [Case; 9] = [
     ("scalars of each size", 2, Some(Scalar), &SCALARS, &[]),
     (
         "a slow receiver uses up the lane",
@@ -242,6 +268,13 @@ static CASES: [Case; 8] = [
         2,
         Some(Packet),
         &LONG_PACKETS,
+        &[],
+    ),
+    (
+        "packets of several frames",
+        4,
+        Some(Packet),
+        &LARGE_PACKETS,
         &[],
     ),
     (
