@@ -2,7 +2,7 @@
 
 use super::{
     EMPTY, Given, MESSAGE, MESSAGE_REPORT, NO_CALL, NO_CALL_REPORT, ONE_BUFFER, ONE_BUFFER_REPORT,
-    REFUSED, comes_out, is_right, outcome_of, repeated_comes_out,
+    REFUSED, comes_out, is_right, lines_of, outcome_of, repeated_comes_out,
 };
 use std::alloc::{AllocError, Global};
 use std::sync::Wait;
@@ -376,26 +376,42 @@ link 0 1 size 4
 1.0 turn
 ";
 
-/// Whenever the frames come, each is put.
-const RAW_FRAMES_PUT: &[u8] = b"
-journal 0
-idle 1
-put 1 000400000004000000000000080000000001010000000000
+/// Whenever the frames come and buffers come back, each is put.
+const RAW_FRAMES_PUT: &[u8] = b"put 1 000400000004000000000000080000000001010000000000
 call 1 ok
-idle 1
 put 1 000400000004000000000000080000004d09010000000000
 call 2 ok
-idle 1
 put 1 000400000004000000000000080000004d014d0000000000
 call 3 ok
-idle 1
 put 1 00040000350000000000000027000000000000000000000000000000000000000000000000000000000000000000000000000000000000
 call 4 ok
+call 1 ok
 ";
+
+/// Whether each frame is put, and the report is right.
+fn are_put<T: Threads + Wait + Sync>(
+    rt: &T,
+    alloc: Global,
+    words: &[&str],
+) -> Result<bool, AllocError> {
+    let given = Given {
+        words,
+        text: RAW_FRAMES,
+        ..ON_THREADS
+    };
+    let (status, output) = outcome_of(rt, alloc, given)?;
+    let report = output.written();
+    let told = lines_of(alloc, report, &[b"put ", b"call "])?;
+    Ok(status == 0 && told.as_slice() == RAW_FRAMES_PUT && is_right(rt, alloc, report)?)
+}
 
 #[test]
 fn raw_frames_on_threads(rt: HostRuntime) -> Result<(), Fail> {
-    assert!(rt; tells(&rt, rt.alloc(), RAW_FRAMES, 10, RAW_FRAMES_PUT)?);
+    for words in BOTH {
+        for _run in 0..10 {
+            assert!(rt; are_put(&rt, rt.alloc(), words)?);
+        }
+    }
     Ok(())
 }
 
