@@ -127,7 +127,7 @@ before [] i line at = absurd cc
 before (x ∷ xs) zero line at = (x, refl)
 before (x ∷ xs) (suc i) line at = before xs i line at
 
-in_opening : (x y : CallLine) (o : Option LoggedCall) → due_in_opening x o ≡ Some y → x ≡ y
+pub in_opening : (x y : CallLine) (o : Option LoggedCall) → due_in_opening x o ≡ Some y → x ≡ y
 in_opening x y None e = cc
 in_opening x y (Some l) e = go (is_refused l.answer) e
   where
@@ -137,14 +137,14 @@ in_opening x y (Some l) e = go (is_refused l.answer) e
 
 -- ---- along a log
 
-last_more : (o : Option LoggedCall) (log : List LoggedCall) (l : LoggedCall) → last_after o (log ++ l ∷ []) ≡ Some l
+pub last_more : (o : Option LoggedCall) (log : List LoggedCall) (l : LoggedCall) → last_after o (log ++ l ∷ []) ≡ Some l
 last_more o [] l = refl
 last_more o (m ∷ ms) l = last_more (Some m) ms l
 
 received_more : (log : List LoggedCall) (l : LoggedCall) → received (log ++ l ∷ []) ≡ received log ++ received_by l.line.call l.answer
 received_more log l = flat_map-append (λ (m : LoggedCall). received_by m.line.call m.answer) log (l ∷ []) ∙ ap (λ xs. received log ++ xs) (append-nil (received_by l.line.call l.answer))
 
-sent_more : (log : List LoggedCall) (l : LoggedCall) → sent (log ++ l ∷ []) ≡ sent log ++ sent_by l.line.call l.answer
+pub sent_more : (log : List LoggedCall) (l : LoggedCall) → sent (log ++ l ∷ []) ≡ sent log ++ sent_by l.line.call l.answer
 sent_more log l = flat_map-append (λ (m : LoggedCall). sent_by m.line.call m.answer) log (l ∷ []) ∙ ap (λ xs. sent log ++ xs) (append-nil (sent_by l.line.call l.answer))
 
 lacks_more : (log : List LoggedCall) (l : LoggedCall) (rest more : List (List ℕ)) → received log ≡ sent log ++ rest → Moves l.line.call l.answer rest more → received (log ++ l ∷ []) ≡ sent (log ++ l ∷ []) ++ more

@@ -1,2 +1,10 @@
 mod HopLemmas
 mod LogPackets
+mod RoleLines
+mod SourceLemmas
+mod RelayDeeds
+mod RelayStates
+mod RelayPackets
+mod RelayJournals
+mod RelayChannels
+mod RelayOrder

@@ -5,4 +5,6 @@
 
 mod laws;
 
-pub use laws::{logs_have_the_packets_of_runs, middle_logs_are_hops};
+pub use laws::{
+    channels_carry_hops, logs_have_the_packets_of_runs, middle_logs_are_hops, relays_keep_order,
+};
