@@ -1,10 +1,8 @@
 -- A log that fits the role of a domain between, call by call: the opening sends and receives nothing; after it, what is held is nothing, or
 -- the packet of the send that is due.
-use Rattle.std.proofs.Common.{◌≡◌, ℕ, zero, suc, ◌≤◌, nat_lt, Bool, true, false, cond, List, [], ◌∷◌, ◌++◌, length, drop, slice_get, Option, Some, None, refl, ap, sym, subst, ◌∙◌, arith, append_assoc, append-nil, length-append}
+use Rattle.std.proofs.Common.{◌≡◌, ℕ, ◌≤◌, nat_lt, Bool, true, false, cond, List, [], ◌∷◌, ◌++◌, length, drop, Option, Some, None, refl, ap, sym, subst, ◌∙◌, arith, append_assoc, append-nil}
 use Rattle.std.specs.Prelude.{◌==◌}
-use Rattle.std.specs.List.{AllByRecursion}
 use Rattle.std.proofs.lemmas.List.{drop_at}
-use Rattle.std.proofs.lemmas.Grind.{flat_map-append}
 use Rattle.mc_base.specs.declared.refusal.Refusal.{Refusal}
 use Rattle.mc_base.specs.declared.refusal.Refusal.TheVariants.{ChanClosed}
 use Rattle.board_model.specs.declared.scenario.Call.{Call}
@@ -12,8 +10,9 @@ use Rattle.board_model.specs.declared.scenario.Call.TheVariants.{OpenSend, PktRe
 use Rattle.board_model.specs.declared.scenario.CallLine.{CallLine}
 use Rattle.board_model.specs.Journal.{PlainAnswer, agrees, gives, refuses}
 use Rattle.board_model.specs.Logs.{LoggedCall}
-use Rattle.hop_relay.specs.Roles.{Role, middle, opening, sends, receives, send_line, due_after, due_in_opening, due_behind, due_by, due, last_after, last_call, is_refused, FitsFrom, FitsRole}
+use Rattle.hop_relay.specs.Roles.{Role, middle, sends, receives, send_line, due_after, due, FitsFrom, FitsRole}
 use Rattle.hop_relay.specs.Hop.{received_by, sent_by, received, sent, held, SendsOn, IsHop}
+use Rattle.hop_relay.proofs.RoleLogs.{received_more, sent_more, IsPlain, PlainOrNone, along_role}
 
 -- ---- what is held, by the line that is due
 
@@ -95,16 +94,14 @@ module _ (d most : ℕ) where
 
 -- ---- in the opening
 
--- neither a send nor a receive
-abbrev IsPlain : Call → Type 0
-IsPlain (PktSend port bytes) = ⊥
-IsPlain (PktRecv port) = ⊥
-IsPlain other = Unit {0}
-
-plain_next : (call : Call) (rest : List (List ℕ)) → IsPlain call → rest ≡ [] → NextCall call rest
-plain_next (PktSend port bytes) rest plain none = absurd plain
-plain_next (PktRecv port) rest plain none = absurd plain
-plain_next call rest plain none = none
+plain_next : (o : Option CallLine) (rest : List (List ℕ)) → PlainOrNone o → rest ≡ [] → Next o rest
+plain_next None rest plain none = few rest none
+plain_next (Some line) rest plain none = go line.call plain
+  where
+    go : (call : Call) → IsPlain call → NextCall call rest
+    go (PktSend port bytes) is = absurd is
+    go (PktRecv port) is = absurd is
+    go call is = none
 
 plain_none : (call : Call) (rest : List (List ℕ)) → IsPlain call → NextCall call rest → rest ≡ []
 plain_none (PktSend port bytes) rest plain is = absurd plain
@@ -116,36 +113,7 @@ plain_stays (PktSend port bytes) answer rest plain = absurd plain
 plain_stays (PktRecv port) answer rest plain = absurd plain
 plain_stays call answer rest plain = stays call answer rest refl refl
 
-all_get : (lines : List CallLine) (i : ℕ) (line : CallLine) → AllByRecursion (λ l. IsPlain l.call) lines → slice_get lines i ≡ Some line → IsPlain line.call
-all_get [] i line all at = absurd cc
-all_get (x ∷ xs) zero line all at = let same : x ≡ line = cc in subst (λ (l : CallLine). IsPlain l.call) same all.0
-all_get (x ∷ xs) (suc i) line all at = all_get xs i line all.1 at
-
--- a line comes before another
-before : (lines : List CallLine) (i : ℕ) (line : CallLine) → slice_get lines (suc i) ≡ Some line → (first : CallLine) × (slice_get lines i ≡ Some first)
-before [] i line at = absurd cc
-before (x ∷ xs) zero line at = (x, refl)
-before (x ∷ xs) (suc i) line at = before xs i line at
-
-pub in_opening : (x y : CallLine) (o : Option LoggedCall) → due_in_opening x o ≡ Some y → x ≡ y
-in_opening x y None e = cc
-in_opening x y (Some l) e = go (is_refused l.answer) e
-  where
-    go : (b : Bool) → cond b None (Some x) ≡ Some y → x ≡ y
-    go true e = absurd cc
-    go false e = cc
-
 -- ---- along a log
-
-pub last_more : (o : Option LoggedCall) (log : List LoggedCall) (l : LoggedCall) → last_after o (log ++ l ∷ []) ≡ Some l
-last_more o [] l = refl
-last_more o (m ∷ ms) l = last_more (Some m) ms l
-
-received_more : (log : List LoggedCall) (l : LoggedCall) → received (log ++ l ∷ []) ≡ received log ++ received_by l.line.call l.answer
-received_more log l = flat_map-append (λ (m : LoggedCall). received_by m.line.call m.answer) log (l ∷ []) ∙ ap (λ xs. received log ++ xs) (append-nil (received_by l.line.call l.answer))
-
-pub sent_more : (log : List LoggedCall) (l : LoggedCall) → sent (log ++ l ∷ []) ≡ sent log ++ sent_by l.line.call l.answer
-sent_more log l = flat_map-append (λ (m : LoggedCall). sent_by m.line.call m.answer) log (l ∷ []) ∙ ap (λ xs. sent log ++ xs) (append-nil (sent_by l.line.call l.answer))
 
 lacks_more : (log : List LoggedCall) (l : LoggedCall) (rest more : List (List ℕ)) → received log ≡ sent log ++ rest → Moves l.line.call l.answer rest more → received (log ++ l ∷ []) ≡ sent (log ++ l ∷ []) ++ more
 lacks_more log l rest more lacks moves =
@@ -156,58 +124,24 @@ lacks_more log l rest more lacks moves =
     ∙ sym (append_assoc (sent log) (sent_by l.line.call l.answer) more)
     ∙ ap (λ xs. xs ++ more) (sym (sent_more log l))
 
+record Lacks (log : List LoggedCall) (o : Option CallLine) : Type 0 where
+  rest : List (List ℕ)
+  lacks : received log ≡ sent log ++ rest
+  next : Next o rest
+
+opens : (log : List LoggedCall) (l : LoggedCall) (o : Option CallLine) → IsPlain l.line.call → PlainOrNone o → Lacks log (Some l.line) → Lacks (log ++ l ∷ []) o
+opens log l o own plain a =
+    let none = plain_none l.line.call a.rest own a.next in
+    record { rest = a.rest; lacks = lacks_more log l a.rest a.rest a.lacks (plain_stays l.line.call l.answer a.rest own); next = plain_next o a.rest plain none }
+
 module _ (d most : ℕ) where
-  abbrev lines : List CallLine
-  lines = opening (middle d most)
+  follows : (log : List LoggedCall) (l : LoggedCall) → Lacks log (Some l.line) → Lacks (log ++ l ∷ []) (due_after (middle d most) (sends (log ++ l ∷ [])) (receives (log ++ l ∷ [])) l.line.call l.answer)
+  follows log l a =
+      let to = behind d most (sends (log ++ l ∷ [])) (receives (log ++ l ∷ [])) l.line.call l.answer a.rest a.next in
+      record { rest = to.more; lacks = lacks_more log l a.rest to.more a.lacks to.moves; next = to.next }
 
-  record Along (log : List LoggedCall) : Type 0 where
-    rest : List (List ℕ)
-    lacks : received log ≡ sent log ++ rest
-    next : Next (due (middle d most) log) rest
-
-  all_plain : AllByRecursion (λ l. IsPlain l.call) lines
-  all_plain = (tt, (tt, (tt, (tt, (tt, (tt, (tt, (tt, tt))))))))
-
-  along_more : (log : List LoggedCall) (l : LoggedCall) → Along log → due (middle d most) log ≡ Some l.line → Along (log ++ l ∷ [])
-  along_more log l a due_is = go (slice_get lines (length (log ++ l ∷ []))) refl
-    where
-      next : NextCall l.line.call a.rest
-      next = subst (λ o. Next o a.rest) due_is a.next
-
-      due_now : (o : Option CallLine) → slice_get lines (length (log ++ l ∷ [])) ≡ o → due (middle d most) (log ++ l ∷ []) ≡ due_by (middle d most) (log ++ l ∷ []) o
-      due_now o at = ap (due_by (middle d most) (log ++ l ∷ [])) at
-
-      plain : (line : CallLine) → slice_get lines (length (log ++ l ∷ [])) ≡ Some line → IsPlain l.line.call
-      plain line at =
-          let longer : length (log ++ l ∷ []) ≡ suc (length log) = omega (arith, length-append log (l ∷ [])) in
-          let first = before lines (length log) line (ap (slice_get lines) (sym longer) ∙ at) in
-          let same : first.0 ≡ l.line = in_opening first.0 l.line (last_call log) (sym (ap (due_by (middle d most) log) first.1) ∙ due_is) in
-          all_get lines (length log) l.line all_plain (first.1 ∙ ap (λ (x : CallLine). Some x) same)
-
-      opens : (line : CallLine) → IsPlain line.call → (rest : List (List ℕ)) → rest ≡ [] → (b : Bool) → Next (cond b None (Some line)) rest
-      opens line plain rest none true = few rest none
-      opens line plain rest none false = plain_next line.call rest plain none
-
-      go : (o : Option CallLine) → slice_get lines (length (log ++ l ∷ [])) ≡ o → Along (log ++ l ∷ [])
-      go (Some line) at =
-          let own = plain line at in
-          let none = plain_none l.line.call a.rest own next in
-          record {
-            rest = a.rest;
-            lacks = lacks_more log l a.rest a.rest a.lacks (plain_stays l.line.call l.answer a.rest own);
-            next = subst (λ o. Next o a.rest) (sym (due_now (Some line) at ∙ ap (due_in_opening line) (last_more None log l))) (opens line (all_get lines (length (log ++ l ∷ [])) line all_plain at) a.rest none (is_refused l.answer));
-          }
-      go None at =
-          let to = behind d most (sends (log ++ l ∷ [])) (receives (log ++ l ∷ [])) l.line.call l.answer a.rest next in
-          record {
-            rest = to.more;
-            lacks = lacks_more log l a.rest to.more a.lacks to.moves;
-            next = subst (λ o. Next o to.more) (sym (due_now None at ∙ ap (due_behind (middle d most) (log ++ l ∷ [])) (last_more None log l))) to.next;
-          }
-
-  along_from : (first log : List LoggedCall) → Along first → FitsFrom (middle d most) first log → Along (first ++ log)
-  along_from first [] a fits = subst Along (sym (append-nil first)) a
-  along_from first (l ∷ ls) a fits = subst Along (append_assoc first (l ∷ []) ls) (along_from (first ++ l ∷ []) ls (along_more first l a fits.0) fits.1)
+  along : (log : List LoggedCall) → FitsRole (middle d most) log → Lacks log (due (middle d most) log)
+  along log fits = along_role (middle d most) Lacks (tt, (tt, (tt, (tt, (tt, (tt, (tt, (tt, tt)))))))) opens follows (record { rest = []; lacks = refl; next = refl }) log fits
 
   front_fits : (first front back : List LoggedCall) → FitsFrom (middle d most) first (front ++ back) → FitsFrom (middle d most) first front
   front_fits first [] back fits = tt
@@ -220,6 +154,5 @@ sends_on log rest lacks few =
 
 pub is_hop : (d most : ℕ) (log : List LoggedCall) → FitsRole (middle d most) log → IsHop log
 is_hop d most log fits front back is =
-    let own : FitsRole (middle d most) front = front_fits d most [] front back (subst (FitsRole (middle d most)) is fits) in
-    let a = along_from d most [] front (record { rest = []; lacks = refl; next = refl }) own in
+    let a = along d most front (front_fits d most [] front back (subst (FitsRole (middle d most)) is fits)) in
     sends_on front a.rest a.lacks (next_few (due (middle d most) front) a.rest a.next)

@@ -1,3 +1,4 @@
+mod RoleLogs
 mod HopLemmas
 mod LogPackets
 mod RoleLines

@@ -1,9 +1,10 @@
 -- The channels of a relay's run: the one of a domain accepts what its log sent, and is taken at the next domain, as that one's log received it.
-use Rattle.std.proofs.Common.{◌≡◌, ◌⊎◌, ℕ, zero, suc, ◌+◌, ◌≤◌, ◌<◌, Bool, true, false, cond, List, [], ◌∷◌, ◌++◌, map, filter, find, length, flat_map, Some, refl, ap, sym, subst, ◌∙◌, arith, inl, inr}
-use Rattle.std.specs.Prelude.{◌==◌, Contains, get_or}
+use Rattle.std.proofs.Common.{◌≡◌, ◌⊎◌, ℕ, zero, suc, ◌+◌, ◌≤◌, ◌<◌, Bool, true, false, cond, List, [], ◌∷◌, ◌++◌, map, filter, find, flat_map, Some, refl, ap, sym, subst, ◌∙◌, arith, inl, inr}
+use Rattle.std.specs.Prelude.{◌==◌, Contains}
 use Rattle.std.specs.List.{AllByRecursion}
 use Rattle.std.proofs.lemmas.Bool.{cases_Bool, eqb-true, eqb-false, eq-eqb}
 use Rattle.std.proofs.lemmas.List.{map-append}
+use Rattle.std.proofs.lemmas.List.Elements.{All-contains, All-from_recursion}
 use Rattle.std.proofs.lemmas.Simd.{map-map}
 use Rattle.board_model.specs.declared.scenario.DomainLine.{DomainLine}
 use Rattle.board_model.specs.declared.scenario.Scenario.{Scenario}
@@ -35,12 +36,7 @@ use Rattle.hop_relay.proofs.RelayJournals.{role_is, names_next, accepts_sent, ta
 -- ---- lists
 
 contained : (P : ℕ → Type 0) (xs : List ℕ) (n : ℕ) → AllByRecursion P xs → Contains xs n → P n
-contained P xs n all c = go xs c.0 all c.1 c.2
-  where
-    go : (ys : List ℕ) (k : ℕ) → AllByRecursion P ys → k < length ys → get_or ys k n ≡ n → P n
-    go [] k all less at = absurd (omega (arith, less))
-    go (y ∷ ys) zero all less at = subst P at all.0
-    go (y ∷ ys) (suc k) all less at = go ys k all.1 (omega (arith, less)) at
+contained P xs n all c = All-contains P xs n (All-from_recursion P xs all) c
 
 has_front : (P : DomainLine → Type 0) (xs ys : List DomainLine) → Has P xs → Has P (xs ++ ys)
 has_front P [] ys h = absurd h

@@ -1,6 +1,6 @@
 -- The lines of a log that fits a role: those of the opening, in their order, and then sends, receives, releases and closes. So it connects
 -- once at most, to the next domain, and calls nothing that is not of a relay.
-use Rattle.std.proofs.Common.{◌≡◌, ◌⊎◌, inl, inr, ℕ, zero, suc, ◌+◌, ◌≤◌, nat_lt, Bool, true, false, cond, List, [], ◌∷◌, ◌++◌, length, drop, slice_get, Option, Some, None, refl, ap, sym, subst, ◌∙◌, arith}
+use Rattle.std.proofs.Common.{◌≡◌, ◌⊎◌, inl, inr, ℕ, zero, suc, ◌+◌, ◌≤◌, nat_lt, Bool, true, false, cond, List, [], ◌∷◌, ◌++◌, length, drop, slice_get, Option, Some, None, refl, ap, sym, subst, ◌∙◌, arith, length-append}
 use Rattle.std.specs.Prelude.{◌==◌}
 use Rattle.std.specs.List.{AllByRecursion, flat_map}
 use Rattle.mc_base.specs.declared.refusal.Refusal.{Refusal}
@@ -10,8 +10,9 @@ use Rattle.board_model.specs.declared.scenario.Call.TheVariants.{Create, Lookup,
 use Rattle.board_model.specs.declared.scenario.CallLine.{CallLine}
 use Rattle.board_model.specs.Journal.{PlainAnswer, agrees, connects, gives, refuses}
 use Rattle.board_model.specs.Logs.{LoggedCall}
+use Rattle.board_model.proofs.MessageAlls.{all-append, all-parts}
 use Rattle.hop_relay.specs.Roles.{Role, first, middle, last, opening, sends, receives, send_line, release_line, next_packet, due_after, due_behind, due_by, last_call, FitsFrom, FitsRole}
-use Rattle.hop_relay.proofs.HopLemmas.{in_opening}
+use Rattle.hop_relay.proofs.RoleLogs.{in_opening, one_longer}
 
 -- ---- lines after the opening
 
@@ -91,10 +92,6 @@ drop_past [] zero none = (refl, refl)
 drop_past [] (suc n) none = (refl, refl)
 drop_past (x ∷ xs) zero none = absurd cc
 drop_past (x ∷ xs) (suc n) none = drop_past xs n none
-
-one_longer : (xs : List LoggedCall) (x : LoggedCall) → length (xs ++ x ∷ []) ≡ suc (length xs)
-one_longer [] x = refl
-one_longer (y ∷ ys) x = ap suc (one_longer ys x)
 
 lines_from : (role : Role) (before log : List LoggedCall) → FitsFrom role before log → FitsLines log (drop (length before) (opening role))
 lines_from role before [] fits = tt
@@ -198,27 +195,11 @@ module _ (P : ℕ → Type 0) where
   none_more : (found more : List ℕ) (most : ℕ) → found ≡ [] → Connects P most more → Connects P most (found ++ more)
   none_more found more most none c = subst (λ xs. Connects P most (xs ++ more)) (sym none) c
 
-  more_few : (names more : List ℕ) (most : ℕ) → length more ≤ most → length (names ++ more) ≤ length names + most
-  more_few [] more most few = omega (arith, few)
-  more_few (n ∷ ns) more most few = omega (arith, more_few ns more most few)
-
-  joined_all : (xs ys : List ℕ) → AllByRecursion P xs → AllByRecursion P ys → AllByRecursion P (xs ++ ys)
-  joined_all [] ys a b = b
-  joined_all (x ∷ xs) ys a b = (a.0, joined_all xs ys a.1 b)
-
-  split_all : (xs ys : List ℕ) → AllByRecursion P (xs ++ ys) → AllByRecursion P xs × AllByRecursion P ys
-  split_all [] ys all = (tt, all)
-  split_all (x ∷ xs) ys all = let rest = split_all xs ys all.1 in ((all.0, rest.0), rest.1)
-
-  append_length : (xs ys : List ℕ) → length (xs ++ ys) ≡ length xs + length ys
-  append_length [] ys = omega arith
-  append_length (x ∷ xs) ys = omega (arith, append_length xs ys)
-
   all_connects : (log : List LoggedCall) (xs : List CallLine) → AllByRecursion P (flat_map (λ x. names_in x.call) xs) → FitsLines log xs → Connects P (length (flat_map (λ x. names_in x.call) xs)) (connected log)
   all_connects [] xs all fits = record { few = omega arith; each = tt }
   all_connects (l ∷ ls) [] all fits = none_more (connected_by l.line.call l.answer) (connected ls) 0 (none_behind l.line.call l.answer fits.0) (all_connects ls [] tt fits.1)
   all_connects (l ∷ ls) (x ∷ xs) all fits =
-      let parts = split_all (names_in x.call) (flat_map (λ y. names_in y.call) xs) all in
+      let parts = all-parts P (names_in x.call) (flat_map (λ y. names_in y.call) xs) all in
       go parts.0 (all_connects ls xs parts.1 fits.1) (none_or_named l.line.call l.answer)
     where
       names : List ℕ
@@ -229,11 +210,11 @@ module _ (P : ℕ → Type 0) where
 
       go : AllByRecursion P names → Connects P (length later) (connected ls) → (connected_by l.line.call l.answer ≡ []) ⊎ (connected_by l.line.call l.answer ≡ names_in l.line.call) →
           Connects P (length (names ++ later)) (connected_by l.line.call l.answer ++ connected ls)
-      go own rest (inl none) = none_more (connected_by l.line.call l.answer) (connected ls) (length (names ++ later)) none (record { few = omega (arith, rest.few, append_length names later); each = rest.each })
+      go own rest (inl none) = none_more (connected_by l.line.call l.answer) (connected ls) (length (names ++ later)) none (record { few = omega (arith, rest.few, length-append names later); each = rest.each })
       go own rest (inr is) =
           let same : connected_by l.line.call l.answer ≡ names = is ∙ ap (λ (y : CallLine). names_in y.call) (sym fits.0) in
           subst (λ ns. Connects P (length (names ++ later)) (ns ++ connected ls)) (sym same)
-          (record { few = omega (arith, more_few names (connected ls) (length later) rest.few, append_length names later); each = joined_all names (connected ls) own rest.each })
+          (record { few = omega (arith, rest.few, length-append names (connected ls), length-append names later); each = all-append P names (connected ls) own rest.each })
 
 -- of a role: one at most, and to the domain after this one
 abbrev pub IsRoleOf : ℕ → Role → Type 0
