@@ -1,17 +1,17 @@
 -- The channels of a relay's run: the one of a domain accepts what its log sent, and is taken at the next domain, as that one's log received it.
-use Rattle.std.proofs.Common.{◌≡◌, ◌⊎◌, ℕ, zero, suc, ◌+◌, ◌≤◌, ◌<◌, Bool, true, false, cond, List, [], ◌∷◌, ◌++◌, map, filter, find, flat_map, Some, refl, ap, sym, subst, ◌∙◌, arith, inl, inr}
+use Rattle.std.proofs.Common.{Option, None, ◌≡◌, ◌⊎◌, ℕ, zero, suc, ◌+◌, ◌≤◌, ◌<◌, Bool, true, false, cond, List, [], ◌∷◌, ◌++◌, map, filter, find, flat_map, Some, refl, ap, sym, subst, ◌∙◌, arith, inl, inr}
 use Rattle.std.specs.Prelude.{◌==◌, Contains}
 use Rattle.std.specs.List.{AllByRecursion}
-use Rattle.std.proofs.lemmas.Bool.{cases_Bool, eqb-true, eqb-false, eq-eqb}
+use Rattle.std.proofs.lemmas.Bool.{cases_Bool, eqb-true, eqb-false}
 use Rattle.std.proofs.lemmas.List.{map-append}
 use Rattle.std.proofs.lemmas.List.Elements.{All-contains, All-from_recursion}
 use Rattle.std.proofs.lemmas.Simd.{map-map}
 use Rattle.board_model.specs.declared.scenario.DomainLine.{DomainLine}
 use Rattle.board_model.specs.declared.scenario.Scenario.{Scenario}
 use Rattle.board_model.specs.State.{Item}
-use Rattle.board_model.specs.LinkedBoard.{Differ}
+use Rattle.board_model.specs.LinkedBoard.{Differ, IsLinkedBoard}
 use Rattle.board_model.specs.Run.{IsDomainRun}
-use Rattle.board_model.specs.Board.{DomainJournal}
+use Rattle.board_model.specs.Board.{DomainJournal, IsBoardRun}
 use Rattle.board_model.specs.Channels.{accepted_by, accepted_in, named_by, named_in, domains_named, is_of_channel, contents_of, taken_on}
 use Rattle.board_model.specs.ChannelLaws.{EndsWhereNamed}
 use Rattle.board_model.specs.Deeds.{along}
@@ -19,19 +19,19 @@ use Rattle.board_model.specs.JournalDeeds.{deeds_of, opened}
 use Rattle.board_model.specs.Logs.{log_of}
 use Rattle.board_model.specs.Takings.{Taking, takings_in}
 use Rattle.board_model.proofs.ChannelBoard.{JournalRun}
-use Rattle.board_model.proofs.ChannelLaw.{each_runs, channels-end-where-named}
+use Rattle.board_model.proofs.ChannelLaw.{each_runs, every-channel-is-kept, channels-end-where-named}
 use Rattle.board_model.proofs.ListsApart.{all-joined}
-use Rattle.board_model.proofs.ListsOne.{all-any, differ-one, empty_parts, joined-one}
-use Rattle.board_model.proofs.MessageAlls.{all-found, all-weaken, all-with, found-passes}
+use Rattle.board_model.proofs.ListsOne.{all-any, differ-one, empty_parts, joined-none, joined-one}
+use Rattle.board_model.proofs.MessageAlls.{all-found, all-weaken, all-with, found-passes, none-passes}
 use Rattle.board_model.proofs.PlaceBoards.{rising_differ}
 use Rattle.board_model.proofs.WholeHas.{Has, has-weaken, has-each, has-found}
 use Rattle.board_model.proofs.WholeJoined.{has-rising}
 use Rattle.hop_relay.specs.Roles.{FitsRole}
 use Rattle.hop_relay.specs.Hop.{sent, received}
 use Rattle.hop_relay.specs.RelayBoard.{numbers_below, relay_domain, role_of}
-use Rattle.hop_relay.specs.RelayLaw.{accepted_at, taken_at, log_in, log_at, IsRelayRun, CarriesHop}
+use Rattle.hop_relay.specs.RelayLaw.{accepted_at, taken_at, left_at, IsEmptyAt, log_in, log_at, IsRelayRun, HopFitsLogs}
 use Rattle.hop_relay.proofs.RelayPackets.{OfChannel, contents_in, Takes}
-use Rattle.hop_relay.proofs.RelayJournals.{role_is, names_next, accepts_sent, takes_received}
+use Rattle.hop_relay.proofs.RelayJournals.{role_is, unnamed_accepts, names_next, accepts_sent, takes_received}
 
 -- ---- lists
 
@@ -88,6 +88,45 @@ module _ (o n : ℕ) where
       ap (λ b. map (λ (i : Item). i.content) (cond b (t.item ∷ filter (is_of_channel o n) (map (λ u. u.item) ts)) (filter (is_of_channel o n) (map (λ u. u.item) ts)))) all.0
       ∙ ap (λ cs. t.item.content ∷ cs) (all_of_one ts all.1)
 
+-- ---- the journals of a run, one of each domain
+
+module _ (s : Scenario) (js : List DomainJournal) (board : IsLinkedBoard s) (run : IsBoardRun s js) where
+  domains_apart : Differ (map (λ j. j.line.domain) js)
+  domains_apart = subst Differ (sym (sym (map-map (λ (d : DomainLine). d.domain) (λ (j : DomainJournal). j.line) js) ∙ ap (map (λ (d : DomainLine). d.domain)) run.each_domain)) (rising_differ s board)
+
+  -- what only the domain of a number has is what its journal has
+  module _ {A : Type 0} (f : DomainJournal → List A) (d : ℕ) where
+    pub of_domain : (h : DomainJournal → List A) → ((k : DomainJournal) → h k ≡ cond (k.line.domain == d) (f k) []) → (j : DomainJournal) → find (λ k. k.line.domain == d) js ≡ Some j → flat_map h js ≡ f j
+    of_domain h is j found =
+        joined-one h (λ k. k.line.domain == d) js j (differ-one (λ (k : DomainJournal). k.line.domain) d js domains_apart)
+        (all-any (λ k. (k.line.domain == d) ≡ false → h k ≡ []) (λ k far. is k ∙ ap (λ b. cond b (f k) []) far) js) found
+        ∙ is j ∙ ap (λ b. cond b (f j) []) (found-passes (λ k. k.line.domain == d) js j found)
+
+    pub of_none : (h : DomainJournal → List A) → ((k : DomainJournal) → h k ≡ cond (k.line.domain == d) (f k) []) → find (λ k. k.line.domain == d) js ≡ None → flat_map h js ≡ []
+    of_none h is none = joined-none h js (all-weaken (λ k. (k.line.domain == d) ≡ false) (λ k. h k ≡ []) (λ k far. is k ∙ ap (λ b. cond b (f k) []) far) js (none-passes (λ k. k.line.domain == d) js none))
+
+  -- a channel that was never numbered accepted nothing
+  unnumbered_accepts : (d : ℕ) → domains_named s js d 1 ≡ [] → accepted_at s js d ≡ []
+  unnumbered_accepts d none = go (find (λ k. k.line.domain == d) js) refl
+    where
+      accepts : DomainJournal → List (List ℕ)
+      accepts k = along (accepted_by 1) (opened s k) (deeds_of s k)
+
+      names : DomainJournal → List ℕ
+      names k = along (named_by 1) (opened s k) (deeds_of s k)
+
+      go : (o : Option DomainJournal) → find (λ k. k.line.domain == d) js ≡ o → accepted_at s js d ≡ []
+      go None found = of_none accepts d (accepted_in s d 1) (λ k. refl) found
+      go (Some j) found =
+          of_domain accepts d (accepted_in s d 1) (λ k. refl) j found
+          ∙ unnamed_accepts s j (all-found (JournalRun s) (λ k. k.line.domain == d) js j (each_runs s js board run) found) 1 (sym (of_domain names d (named_in s d 1) (λ k. refl) j found) ∙ none)
+
+  pub unnumbered_empty : (d : ℕ) → domains_named s js d 1 ≡ [] → IsEmptyAt s js d
+  unnumbered_empty d none =
+      let accepted = unnumbered_accepts d none in
+      let parts = empty_parts (taken_at s js d) (left_at s js d) (sym (every-channel-is-kept s js board run d 1).kept ∙ accepted) in
+      record { none_accepted = accepted; none_taken = parts.0; none_left = parts.1 }
+
 -- ---- the run of a relay
 
 module _ (packets : List (List ℕ)) (hops size most : ℕ) (s : Scenario) (js : List DomainJournal) (run : IsRelayRun packets hops size most s js) where
@@ -102,9 +141,6 @@ module _ (packets : List (List ℕ)) (hops size most : ℕ) (s : Scenario) (js :
       all-with (λ j. IsDomainRun s j.line j.entries) (λ j. JournalRun s j × FitsRole (role_of packets hops most j.line.domain) (log_of s j)) Known (λ j r both. record { is_run = r; own = both.0; fits = both.1 }) js run.is_run.domain_runs
       (all-with (JournalRun s) (λ j. FitsRole (role_of packets hops most j.line.domain) (log_of s j)) (λ j. JournalRun s j × FitsRole (role_of packets hops most j.line.domain) (log_of s j)) (λ j own fits. (own, fits)) js
       (each_runs s js run.linked run.is_run) run.logs_fit)
-
-  domains_apart : Differ (map (λ j. j.line.domain) js)
-  domains_apart = subst Differ (sym (sym (map-map (λ (d : DomainLine). d.domain) (λ (j : DomainJournal). j.line) js) ∙ ap (map (λ (d : DomainLine). d.domain)) run.is_run.each_domain)) (rising_differ s run.linked)
 
   -- each domain of the row has its journal
   record Placed (d : ℕ) : Type 0 where
@@ -186,9 +222,7 @@ module _ (packets : List (List ℕ)) (hops size most : ℕ) (s : Scenario) (js :
 
   channel_accepts : (d : ℕ) → d ≤ hops → accepted_at s js d ≡ sent (log_at s js d)
   channel_accepts d less =
-      joined-one (accepted_in s d 1) (λ j. j.line.domain == d) js at.journal (differ-one (λ (j : DomainJournal). j.line.domain) d js domains_apart)
-      (all-any (λ j. (j.line.domain == d) ≡ false → accepted_in s d 1 j ≡ []) (λ j far. ap (λ b. cond b (along (accepted_by 1) (opened s j) (deeds_of s j)) []) far) js) at.found
-      ∙ ap (λ b. cond b (along (accepted_by 1) (opened s at.journal) (deeds_of s at.journal)) []) (eq-eqb at.journal.line.domain d at.number)
+      of_domain s js run.linked run.is_run (λ j. along (accepted_by 1) (opened s j) (deeds_of s j)) d (accepted_in s d 1) (λ j. refl) at.journal at.found
       ∙ accepts_sent s at.journal at.known.is_run at.known.own (role_of packets hops most at.journal.line.domain) (role_is packets hops most at.journal.line.domain) at.known.fits
       ∙ ap sent (sym (log_is d at))
     where
@@ -197,7 +231,7 @@ module _ (packets : List (List ℕ)) (hops size most : ℕ) (s : Scenario) (js :
 
   channel_is_taken : (d : ℕ) → d < hops → taken_at s js d ≡ received (log_at s js (d + 1))
   channel_is_taken d less =
-      joined-one (taken_on s d 1) (λ j. j.line.domain == d + 1) js at.journal (differ-one (λ (j : DomainJournal). j.line.domain) (d + 1) js domains_apart) (taken_nowhere d 1) at.found
+      joined-one (taken_on s d 1) (λ j. j.line.domain == d + 1) js at.journal (differ-one (λ (j : DomainJournal). j.line.domain) (d + 1) js (domains_apart s js run.linked run.is_run)) (taken_nowhere d 1) at.found
       ∙ all_of_one d 1 (takings_in s at.journal) (all_owned d at takes)
       ∙ takes.contents
       ∙ ap received (sym (log_is (d + 1) at))
@@ -208,5 +242,5 @@ module _ (packets : List (List ℕ)) (hops size most : ℕ) (s : Scenario) (js :
       takes : Takes (takings_in s at.journal) (received (log_of s at.journal))
       takes = takes_received s at.journal at.known.is_run at.known.own (role_of packets hops most at.journal.line.domain) (role_is packets hops most at.journal.line.domain) at.known.fits
 
-  pub carries_hop : (d : ℕ) → d < hops → CarriesHop s js d
-  carries_hop d less = record { accepted = channel_accepts d (omega arith); taken = channel_is_taken d less }
+  pub hop_fits : (d : ℕ) → d < hops → HopFitsLogs s js d
+  hop_fits d less = record { accepted = channel_accepts d (omega arith); taken = channel_is_taken d less }

@@ -40,6 +40,15 @@ role_is packets hops most d = by_first (d == 0) refl
     by_first true is = eqb-true d 0 is
     by_first false is = by_last (d == hops)
 
+-- where a channel was not numbered, nothing is accepted on it
+pub unnamed_accepts : (s : Scenario) (j : DomainJournal) → JournalRun s j → (m : ℕ) → along (named_by m) (opened s j) (deeds_of s j) ≡ [] → along (accepted_by m) (opened s j) (deeds_of s j) ≡ []
+unnamed_accepts s j own m none = go (aim j.line.domain m j.line.nodes (neighbours s j.line) (deeds_of s j) own.may own.read own.few)
+  where
+    go : Aim (λ p. way_of not_begun (letters m (along (puts_by p) (opened s j) (deeds_of s j)))) (λ p. contents (letters m (along (puts_by p) (opened s j) (deeds_of s j)))) (along (accepted_by m) (opened s j) (deeds_of s j)) (along (named_by m) (opened s j) (deeds_of s j)) →
+        along (accepted_by m) (opened s j) (deeds_of s j) ≡ []
+    go (no_aim way nothing empty) = empty
+    go (aimed_at q begun same far named) = let never : Contains [] q = subst (λ qs. Contains qs q) none named in let less = never.1 in absurd (omega (arith, less))
+
 module _ (s : Scenario) (j : DomainJournal) (run : IsDomainRun s j.line j.entries) (own : JournalRun s j) (role : Role) (is : IsRoleOf j.line.domain role) (fits : FitsRole role (log_of s j)) where
   connects_once : Connects (λ q. q ≡ j.line.domain + 1) 1 (along connects_in (opened s j) (deeds_of s j))
   connects_once = deed_connects j.line.domain role s j run is fits
@@ -60,12 +69,7 @@ module _ (s : Scenario) (j : DomainJournal) (run : IsDomainRun s j.line j.entrie
 
   -- so nothing is accepted on another
   accepts_none : (m : ℕ) → (m == 1) ≡ false → along (accepted_by m) (opened s j) (deeds_of s j) ≡ []
-  accepts_none m other = go (aim j.line.domain m j.line.nodes (neighbours s j.line) (deeds_of s j) own.may own.read own.few)
-    where
-      go : Aim (λ p. way_of not_begun (letters m (along (puts_by p) (opened s j) (deeds_of s j)))) (λ p. contents (letters m (along (puts_by p) (opened s j) (deeds_of s j)))) (along (accepted_by m) (opened s j) (deeds_of s j)) (along (named_by m) (opened s j) (deeds_of s j)) →
-          along (accepted_by m) (opened s j) (deeds_of s j) ≡ []
-      go (no_aim way none empty) = empty
-      go (aimed_at q begun same far named) = let never : Contains [] q = subst (λ qs. Contains qs q) (none_else m other) named in let less = never.1 in absurd (omega (arith, less))
+  accepts_none m other = unnamed_accepts s j own m (none_else m other)
 
   pub accepts_sent : along (accepted_by 1) (opened s j) (deeds_of s j) ≡ sent (log_of s j)
   accepts_sent = all_accepted (opened s j) (deeds_of s j) own.may (no_deed_strays role s j run fits) accepts_none ∙ (has_packets s j run).sends

@@ -8,14 +8,14 @@ use Rattle.board_model.proofs.ChannelLaw.{every-channel-is-kept}
 use Rattle.hop_relay.specs.Roles.{first, middle, last, FitsRole}
 use Rattle.hop_relay.specs.Hop.{sent, received, held, SendsOn}
 use Rattle.hop_relay.specs.RelayBoard.{role_of}
-use Rattle.hop_relay.specs.RelayLaw.{accepted_at, taken_at, left_at, log_at, on_the_way, IsRelayRun, CarriesHop, KeepsOrder}
+use Rattle.hop_relay.specs.RelayLaw.{accepted_at, taken_at, left_at, log_at, on_the_way, IsRelayRun, HopFitsLogs, KeepsOrder}
 use Rattle.hop_relay.proofs.HopLemmas.{is_hop}
 use Rattle.hop_relay.proofs.SourceLemmas.{sends_first}
-use Rattle.hop_relay.proofs.RelayChannels.{fits_at, carries_hop}
+use Rattle.hop_relay.proofs.RelayChannels.{fits_at, hop_fits}
 
 module _ (packets : List (List ℕ)) (hops size most : ℕ) (s : Scenario) (js : List DomainJournal) (run : IsRelayRun packets hops size most s js) where
-  carries : (d : ℕ) → d < hops → CarriesHop s js d
-  carries d less = carries_hop packets hops size most s js run d less
+  hop : (d : ℕ) → d < hops → HopFitsLogs s js d
+  hop d less = hop_fits packets hops size most s js run d less
 
   channel : (d : ℕ) → accepted_at s js d ≡ taken_at s js d ++ left_at s js d
   channel d = (every-channel-is-kept s js run.linked run.is_run d 1).kept
@@ -33,9 +33,9 @@ module _ (packets : List (List ℕ)) (hops size most : ℕ) (s : Scenario) (js :
   one_more : (d : ℕ) → suc d < hops → taken_at s js d ≡ (taken_at s js (suc d) ++ left_at s js (suc d)) ++ held (log_at s js (suc d))
   one_more d less =
       let next : d + 1 ≡ suc d = omega arith in
-      (carries d (omega (arith, less))).taken
+      (hop d (omega (arith, less))).taken
       ∙ subst (λ n. received (log_at s js n) ≡ sent (log_at s js (suc d)) ++ held (log_at s js (suc d))) (sym next) (sends_on (suc d) (omega arith) less).kept
-      ∙ ap (λ xs. xs ++ held (log_at s js (suc d))) (sym (carries (suc d) less).accepted ∙ channel (suc d))
+      ∙ ap (λ xs. xs ++ held (log_at s js (suc d))) (sym (hop (suc d) less).accepted ∙ channel (suc d))
 
   order_to : (d : ℕ) → d < hops → accepted_at s js 0 ≡ taken_at s js d ++ on_the_way s js d
   order_to zero less = channel 0
@@ -55,5 +55,5 @@ module _ (packets : List (List ℕ)) (hops size most : ℕ) (s : Scenario) (js :
       record {
         order = order;
         taken_first = (on_the_way s js (hops - 1), order);
-        accepted_first = (source.0, source.1 ∙ ap (λ ps. ps ++ source.0) (sym (carries 0 (omega (arith, some))).accepted));
+        accepted_first = (source.0, source.1 ∙ ap (λ ps. ps ++ source.0) (sym (hop 0 (omega (arith, some))).accepted));
       }
