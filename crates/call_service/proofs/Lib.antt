@@ -1,5 +1,5 @@
-mod Numbers
-mod Histories
-mod Repeats
+pub mod Numbers
+pub mod Histories
+pub mod Repeats
 mod Arrivals
 mod Keeping

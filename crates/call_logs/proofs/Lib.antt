@@ -1,0 +1,4 @@
+mod ListsHad
+mod LogsCollected
+mod TakenBy
+mod SentTo
