@@ -2,3 +2,13 @@ mod ListsHad
 mod LogsCollected
 mod TakenBy
 mod SentTo
+mod Followed
+mod ClientSends
+mod ServerSends
+mod Requests
+mod Carried
+mod CallsCarried
+mod Room
+mod Replies
+mod GotReplies
+mod CallsGot

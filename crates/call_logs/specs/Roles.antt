@@ -137,19 +137,20 @@ requests_in messages = filter_map (λ m. request_or_none (request_in m)) message
 abbrev pub requests_received : List LoggedCall → List Request
 requests_received log = requests_in (contents_received log)
 
--- the replies to one call: all that were asked for
-abbrev pub is_whole : (repeat number : ℕ) → List (List ℕ) → Bool
-is_whole repeat number replies = length replies == repeat && are_replies number replies
+-- what was got of a call by its replies, where all came: it is in the first, and the others are the same
+abbrev pub got_of : (repeat number : ℕ) → List (List ℕ) → Option Got
+got_of repeat number [] = None
+got_of repeat number (m ∷ ms) = if length (m ∷ ms) == repeat && are_replies number (m ∷ ms) then Some (got_in m) else None
 
--- what was got of the replies to one call: it is in the first, and the others are the same
-abbrev pub first_got : List (List ℕ) → List Got
-first_got [] = []
-first_got (m ∷ ms) = got_in m ∷ []
+-- of a call and of those after it, which come only then
+abbrev pub and_later : Option Got → List Got → List Got
+and_later None later = []
+and_later (Some g) later = g ∷ later
 
 -- what was got of the messages that a client received, for each of its calls, from this number on, whose replies came
 abbrev pub got_from : (repeat number : ℕ) → List (ℕ × ℕ) → List (List ℕ) → List Got
 got_from repeat number [] messages = []
-got_from repeat number (call ∷ calls) messages = if is_whole repeat number (take repeat messages) then first_got (take repeat messages) ++ got_from repeat (number + 1) calls (drop repeat messages) else []
+got_from repeat number (call ∷ calls) messages = and_later (got_of repeat number (take repeat messages)) (got_from repeat (number + 1) calls (drop repeat messages))
 
 -- what a client got. The server gets nothing
 abbrev pub got_lines : Role → List LoggedCall → List Got

@@ -6,4 +6,7 @@
 
 mod laws;
 
-pub use laws::{logs_have_the_messages_of_runs, received_messages_were_sent};
+pub use laws::{
+    calls_are_carried_in_order, clients_get_what_was_carried, logs_have_the_messages_of_runs,
+    no_call_lacks_room, received_messages_were_sent,
+};

@@ -17,11 +17,11 @@ rest_of (x ∷ xs) = xs
 abbrev pub RiseFrom : ℕ → List Carried → Type 0
 RiseFrom from xs = map (λ e. e.number) xs ≡ rising from (length xs)
 
-first_is : (from : ℕ) (e : Carried) (xs : List Carried) → RiseFrom from (e ∷ xs) → e.number ≡ from
+pub first_is : (from : ℕ) (e : Carried) (xs : List Carried) → RiseFrom from (e ∷ xs) → e.number ≡ from
 unfolding first_or_none
 first_is from e xs h = ap first_or_none h
 
-rest_rises : (from : ℕ) (e : Carried) (xs : List Carried) → RiseFrom from (e ∷ xs) → RiseFrom (from + 1) xs
+pub rest_rises : (from : ℕ) (e : Carried) (xs : List Carried) → RiseFrom from (e ∷ xs) → RiseFrom (from + 1) xs
 unfolding rest_of
 rest_rises from e xs h = ap rest_of h
 
