@@ -1,5 +1,5 @@
 -- A board of numbered calls: the calls of its clients, the roles of its domains, and its runs in which each domain's log fits its role.
--- Source: docs/PROFILE.md, "Numbered calls".
+-- Source: docs/PROFILE.md, "Numbered calls on a board".
 use Rattle.std.specs.Prelude.{ℕ, zero, suc, ◌≤◌, ◌<◌, ◌^◌, ◌==◌, List, map, filter, length}
 use Rattle.std.specs.List.{AllByRecursion}
 use Rattle.board_model.specs.declared.scenario.Scenario.{Scenario}

@@ -1,6 +1,6 @@
 -- The law of numbered calls: what holds of the server's history and of what the clients got, in every run of a board of linked domains in which
 -- each domain's log fits its role.
--- Source: docs/PROFILE.md, "Numbered calls".
+-- Source: docs/PROFILE.md, "Numbered calls on a board".
 use Rattle.std.specs.Prelude.{◌≡◌, ℕ, ◌==◌, List, [], ◌∷◌, map, filter, length}
 use Rattle.std.specs.List.{AllByRecursion}
 use Rattle.board_model.specs.declared.scenario.Scenario.{Scenario}

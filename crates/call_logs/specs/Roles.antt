@@ -1,5 +1,5 @@
 -- Numbered calls: what a client and the server are to do, by the lines that they called so far and the answers.
--- Source: docs/PROFILE.md, "Numbered calls".
+-- Source: docs/PROFILE.md, "Numbered calls on a board".
 use Rattle.std.specs.Prelude.{◌≡◌, ℕ, ◌+◌, ◌*◌, nat_lt, Bool, true, false, ◌&&◌, ◌==◌, List, [], ◌∷◌, ◌++◌, codes, decimal, length, take, drop, replicate, filter_map, slice_get, Option, Some, None, is_some, Result, Ok, Err, if◌then◌else◌}
 use Rattle.std.specs.List.{flat_map, list_all, list_any}
 use Rattle.mc_base.specs.Limits.{single_size}
