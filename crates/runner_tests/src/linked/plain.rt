@@ -7,11 +7,8 @@ use crate::serial::read;
 use board_model::{Call, CallLine};
 use domain_core::{Answer, Entry, Journal, Told};
 use linked_pair::{LinkedPair, Member, Which, reserve_call};
-use mc_base::{Done, Got, Local, Refusal, RequestId};
+use mc_base::{Done, Got, ITEM_SIZE, Local, Refusal, RequestId};
 use std::alloc::Global;
-
-/// The greatest message.
-const LONGEST: usize = 488;
 
 /// The first request of a domain.
 const FIRST: RequestId = RequestId { key: 0, serial: 0 };
@@ -82,7 +79,7 @@ fn call(
     which: Which,
     journal: &mut Journal,
     call: &Call,
-    out: &mut [u8; LONGEST],
+    out: &mut [u8; ITEM_SIZE],
 ) -> Option<Said>
     requires entry_room { 176 ≤ journal.old.entry_room }
     requires byte_room { 90112 ≤ journal.old.byte_room }
@@ -115,15 +112,15 @@ fn call(
 }
 
 /// The answer as it is noted.
-fn answer_of<'a>(said: Said, out: &'a [u8; LONGEST]) -> Answer<'a>
-    ensures { bytes_in_answer result ≤ 488 }
+fn answer_of<'a>(said: Said, out: &'a [u8; ITEM_SIZE]) -> Answer<'a>
+    ensures { bytes_in_answer result ≤ 8192 }
 {
     match said {
         Said::Done => Answer::Ok,
         Said::Number(n) => Answer::Number(n),
         Said::Connected(request, channel) => Answer::Channel { request, channel },
         Said::Message(size) => {
-            let (bytes, _) = out.split_at(LONGEST.min(size as usize));
+            let (bytes, _) = out.split_at(ITEM_SIZE.min(size as usize));
             Answer::Bytes { size, bytes }
         }
         Said::Address(address) => Answer::Done {
@@ -143,10 +140,10 @@ fn play_line(
     line: &CallLine,
 ) -> Option<()> {
     reserve_call(journal).ok()?;
-    let mut out = [0; LONGEST];
+    let mut out = [0; ITEM_SIZE];
     let said = call(pair, which, journal, &line.call, &mut out)?;
     pair.carry();
-    journal.reserve(1, 488).ok()?;
+    journal.reserve(1, ITEM_SIZE as u32).ok()?;
     let answer = answer_of(said, &out);
     journal.note(Entry::Called { number, answer });
     Some(())
