@@ -39,9 +39,10 @@ lost Buffers l e = if e.domain == l.sender then back_from l.receiver e.what else
 abbrev pub IsBacked : Cause → Lane → List Event → Type 0
 IsBacked c l es = (k : ℕ) → sum_by (lost c l) (take k es) ≤ sum_by (gained c l) (take k es)
 
--- with the event at this place, more was taken off a lane than was added
-abbrev pub IsOverdrawn : Cause → Lane → List Event → ℕ → Type 0
-IsOverdrawn c l es p = sum_by (gained c l) (take (p + 1) es) < sum_by (lost c l) (take (p + 1) es)
+-- the event at this place is the first with which more was taken off a lane than was added
+pub record IsOverdrawn (c : Cause) (l : Lane) (es : List Event) (p : ℕ) : Type 0 where
+  pub before : (k : ℕ) → k ≤ p → sum_by (lost c l) (take k es) ≤ sum_by (gained c l) (take k es)
+  pub with_it : sum_by (gained c l) (take (p + 1) es) < sum_by (lost c l) (take (p + 1) es)
 
 abbrev pub AreBackedFrom : Cause → ℕ → List Event → Type 0
 AreBackedFrom c p es = (q : ℕ) → q < domain_limit → IsBacked c (record { sender = p; receiver = q }) es
@@ -49,7 +50,7 @@ AreBackedFrom c p es = (q : ℕ) → q < domain_limit → IsBacked c (record { s
 abbrev pub AreBacked : Cause → List Event → Type 0
 AreBacked c es = (p : ℕ) → p < domain_limit → AreBackedFrom c p es
 
--- with the event at this place, more was taken off some lane than was added
+-- the event at this place is the first with which more was taken off some lane than was added
 pub record IsUnbacked (c : Cause) (es : List Event) (p : ℕ) : Type 0 where
   pub sender : ℕ
   pub receiver : ℕ

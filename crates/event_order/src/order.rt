@@ -72,13 +72,13 @@ fn falling(events: &[Event]) -> Option<usize>
     found
 }
 
-/// The line of an event that stands before one on which it depends.
-fn line_without_cause(events: &[Event], by_lines: bool) -> Option<u32>
+/// The place of an event that stands before one on which it depends.
+fn place_without_cause(events: &[Event], by_lines: bool) -> Option<usize>
     ensures own { result ≡ None → AllRise events.now }
     ensures frames { result ≡ None → AreBacked Frames events.now }
     ensures buffers { result ≡ None → AreBacked Buffers events.now }
     ensures lines { result ≡ None → by_lines ≡ true → in_turn 0 events.now ≡ true }
-    ensures some { IfSome result (LacksCause by_lines events.now) }
+    ensures some { IfSome result (λ p. (p < length events.now) × StandsEarly by_lines events.now p) }
 {
     let own = falling(events);
     let frames = unbacked(Cause::Frames, events);
@@ -88,7 +88,18 @@ fn line_without_cause(events: &[Event], by_lines: bool) -> Option<u32>
     } else {
         None
     };
-    let place = earlier(earlier(own, lines), earlier(frames, buffers))?;
+    earlier(earlier(own, lines), earlier(frames, buffers))
+}
+
+/// The line of an event that stands before one on which it depends.
+fn line_without_cause(events: &[Event], by_lines: bool) -> Option<u32>
+    ensures own { result ≡ None → AllRise events.now }
+    ensures frames { result ≡ None → AreBacked Frames events.now }
+    ensures buffers { result ≡ None → AreBacked Buffers events.now }
+    ensures lines { result ≡ None → by_lines ≡ true → in_turn 0 events.now ≡ true }
+    ensures some { IfSome result (LacksCause by_lines events.now) }
+{
+    let place = place_without_cause(events, by_lines)?;
     Some(events[place].line)
 }
 
