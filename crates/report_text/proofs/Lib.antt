@@ -22,6 +22,7 @@ pub mod RefusedLines
 pub mod ReportsTold
 pub mod RightReports
 pub mod RunsTold
+pub mod SpelledLines
 pub mod StepsDue
 pub mod TextCuts
 pub mod TextFronts

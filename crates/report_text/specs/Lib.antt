@@ -14,6 +14,7 @@ pub mod CountedLines
 pub mod JournalRead
 pub mod StepPass
 pub mod LaneLines
+pub mod SpelledTexts
 pub mod LinkPass
 pub mod JournalLanes
 pub mod LaneLeft

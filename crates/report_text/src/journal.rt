@@ -80,12 +80,7 @@ struct Behind<'a> {
 }
 
 /// Fills `lines` with the lines at the front of a text that stand under the line before, and returns what is behind them.
-fn collect_under<'a>(
-    lines: &mut Vec<Outline>,
-    text: &'a [u8],
-    room: &mut [u8],
-) -> Result<Behind<'a>, NoMemory>
-    requires { longest_line text.now ≤ length room.old }
+fn collect_under<'a>(lines: &mut Vec<Outline>, text: &'a [u8]) -> Result<Behind<'a>, NoMemory>
     ensures lines { IfOk result (λ b. lines_told text.now ≡ lines.new.items ++ lines_told b.text.now) }
     ensures under { IfOk result (λ _. list_all stands_under lines.new.items ≡ true) }
     ensures head { IfOk result (λ b. lines_told b.text.now ≡ told_front (option_map (λ x. (x.0, x.1.now)) b.head)) }
@@ -99,7 +94,7 @@ fn collect_under<'a>(
 {
     lines.clear();
     let mut rest = text;
-    while let Some((line, after)) = next_line(rest, room) {
+    while let Some((line, after)) = next_line(rest) {
         if !is_under(line) {
             return Ok(Behind {
                 head: Some((line, after)),
@@ -118,16 +113,13 @@ fn collect_under<'a>(
 }
 
 /// Reads the lines of a journal, and returns what is left behind them, or the number of the first that no domain with these peers and
-/// this script could have at its place. `puts` has how many frames each line of the script puts where it succeeds, and `room` is as
-/// long as the longest line.
+/// this script could have at its place. `puts` has how many frames each line of the script puts where it succeeds.
 pub fn read_entries<'a>(
     alloc: Global,
     unread: Unread<'a>,
     peers: &[u8],
     puts: &[u64],
-    room: &mut [u8],
 ) -> Result<Result<Unread<'a>, u32>, NoMemory>
-    requires fits { longest_line unread.text.now ≤ length room.old }
     requires few { unread.number + length unread.text.now < 2 ^ 32 }
     ensures value { IfOk result (λ r. seen r ≡ entries_from peers.now puts.now (rest_of unread.entry)) }
     ensures behind { IfOk result (λ r. IsReached unread.entry r) }
@@ -138,7 +130,7 @@ pub fn read_entries<'a>(
     let mut turn = false;
     let mut last = None;
     loop {
-        let behind = collect_under(&mut lines, text, room)?;
+        let behind = collect_under(&mut lines, text)?;
         let claimed = puts_of_head(puts, behind.head);
         if let Some(place) = under_place(peers, turn, claimed, &lines) {
             return Ok(Err(number + place as u32));

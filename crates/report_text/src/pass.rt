@@ -60,10 +60,7 @@ fn text_told(alloc: Global, report: &[u8]) -> Result<Result<ReportText<'_>, u32>
         Ok(told) => told,
         Err(number) => return Ok(Err(number)),
     };
-    let Ok(mut room) = vec![in alloc; 0u8; longest_line(report)] else {
-        return Err(NoMemory);
-    };
-    match read_board(alloc, mode, &scenario, unread, &mut room)? {
+    match read_board(alloc, mode, &scenario, unread)? {
         Ok(_) => Ok(Ok(ReportText {
             mode,
             scenario,

@@ -7,10 +7,10 @@ ghost use Rattle.report_text.specs.Texts.{lines_told, lines_behind, longest_line
 
 use crate::lines::cut;
 use crate::outline::Outline;
-use mc_journal::{Answer, Entry, entries_have_entry_lines, read_entry};
+use mc_journal::{Answer, Entry, spelled_entry};
 
 /// Returns the outline of an entry.
-fn outline(entry: Entry<'_>) -> Outline
+pub(crate) fn outline(entry: Entry<'_>) -> Outline
     ensures { result ≡ outline_of (line_of_entry entry.entry) }
 {
     match entry {
@@ -30,28 +30,20 @@ fn outline(entry: Entry<'_>) -> Outline
     }
 }
 
-/// Reads the outline of a line, without its newline. `room` is at least as long as the line.
-fn read_outline(line: &[u8], room: &mut [u8]) -> Option<Outline>
-    requires { length line.now ≤ length room.old }
+/// Reads the outline of a line, without its newline.
+fn read_outline(line: &[u8]) -> Option<Outline>
     ensures { result ≡ outline_in line.now }
 {
-    match read_entry(line, room) {
-        Ok(entry) => {
-            entries_have_entry_lines(entry);
-            Some(outline(entry))
-        }
-        Err(_) => None,
-    }
+    Some(outline(spelled_entry(line)?))
 }
 
 /// Returns the outline of the first line of a text, and what follows it, if it is a line of a journal.
-pub fn next_line<'a>(text: &'a [u8], room: &mut [u8]) -> Option<(Outline, &'a [u8])>
-    requires { longest_line text.now ≤ length room.old }
+pub fn next_line<'a>(text: &'a [u8]) -> Option<(Outline, &'a [u8])>
     ensures told { lines_told text.now ≡ told_front (option_map (λ x. (x.0, x.1.now)) result) }
     ensures shorter { IfSome result (λ x. length x.1.now < length text.now) }
     ensures fits { IfSome result (λ x. longest_line x.1.now ≤ longest_line text.now) }
     ensures behind { IfSome result (λ x. lines_behind x.1.now ≡ lines_behind text.now) }
 {
     let (line, after) = cut(b'\n', text)?;
-    Some((read_outline(line, room)?, after))
+    Some((read_outline(line)?, after))
 }

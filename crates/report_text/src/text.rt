@@ -1,5 +1,4 @@
-//! The journals and the numbers of a report: whether each line has its form, and which is the first that has not. The `room` of a call is
-//! as long as the longest line.
+//! The journals and the numbers of a report: whether each line has its form, and which is the first that has not.
 
 ghost use Rattle.std.specs.Prelude.{◌≡◌, ◌+◌, ◌<◌, ◌≤◌, ◌^◌, IfOk, length, map};
 ghost use Rattle.board_model.specs.Scenario.{lane_to, rising};
@@ -26,9 +25,7 @@ fn read_journal<'a>(
     scenario: &Scenario,
     line: DomainLine,
     unread: Unread<'a>,
-    room: &mut [u8],
 ) -> Result<Result<Unread<'a>, u32>, NoMemory>
-    requires fits { longest_line unread.text.now ≤ length room.old }
     requires few { unread.number + length unread.text.now < 2 ^ 32 }
     ensures value { IfOk result (λ r. seen r ≡ journal_from scenario.now line (rest_of unread.entry)) }
     ensures behind { IfOk result (λ r. IsReached unread.entry r) }
@@ -37,7 +34,7 @@ fn read_journal<'a>(
     let peers = numbers(alloc, &found)?;
     let puts = script_puts(alloc, scenario, line.domain)?;
     match read_journal_heading(line.domain, unread) {
-        Ok(entries) => read_entries(alloc, entries, &peers, &puts, room),
+        Ok(entries) => read_entries(alloc, entries, &peers, &puts),
         Err(number) => Ok(Err(number)),
     }
 }
@@ -49,9 +46,7 @@ pub fn read_journals<'a>(
     scenario: &Scenario,
     lines: &[DomainLine],
     unread: Unread<'a>,
-    room: &mut [u8],
 ) -> Result<Result<Unread<'a>, u32>, NoMemory>
-    requires fits { longest_line unread.text.now ≤ length room.old }
     requires few { unread.number + length unread.text.now < 2 ^ 32 }
     ensures value { IfOk result (λ r. seen r ≡ journals_from scenario.now lines.now (rest_of unread.entry)) }
     ensures behind { IfOk result (λ r. IsReached unread.entry r) }
@@ -59,8 +54,8 @@ pub fn read_journals<'a>(
     let [line, others @ ..] = lines else {
         return Ok(Ok(unread));
     };
-    match read_journal(alloc, scenario, *line, unread, room)? {
-        Ok(behind) => read_journals(alloc, scenario, others, behind, room),
+    match read_journal(alloc, scenario, *line, unread)? {
+        Ok(behind) => read_journals(alloc, scenario, others, behind),
         Err(number) => Ok(Err(number)),
     }
 }
@@ -208,14 +203,12 @@ pub fn read_board<'a>(
     mode: Mode,
     scenario: &Scenario,
     unread: Unread<'a>,
-    room: &mut [u8],
 ) -> Result<Result<Unread<'a>, u32>, NoMemory>
-    requires fits { longest_line unread.text.now ≤ length room.old }
     requires few { unread.number + length unread.text.now < 2 ^ 32 }
     ensures { IfOk result (λ r. seen r ≡ board_from (mode_of mode) scenario.now (rest_of unread.entry)) }
 {
     let lines = rising_domains(alloc, scenario.domains.as_slice())?;
-    match read_journals(alloc, scenario, &lines, unread, room)? {
+    match read_journals(alloc, scenario, &lines, unread)? {
         Ok(numbers) => read_numbers(alloc, mode, scenario, &lines, numbers),
         Err(number) => Ok(Err(number)),
     }

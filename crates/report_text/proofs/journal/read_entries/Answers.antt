@@ -114,7 +114,6 @@ loop-lines-preserved c =
           ∙ sym whole ∙ ap (moved c.loop-lines.number) (sym here) ∙ c.loop-lines.invariant.place;
       count = omega (arith, c.loop-lines.invariant.count, front, size);
       behind = next ∙ c.loop-lines.invariant.behind;
-      fits = omega (arith, fits, c.loop-lines.invariant.fits);
       longest = omega (arith, fits, c.loop-lines.invariant.longest);
       few = omega (arith, later, size, c.loop-lines.invariant.few, c.in_ok-behind.ensures.shorter);
       shorter = omega (arith, later, c.loop-lines.invariant.shorter, c.in_ok-behind.ensures.shorter);

@@ -12,7 +12,6 @@ invariant-loop-lines l = record {
   place : moved l.number (place_behind l.peers l.puts l.turn l.last (lines_told l.text)) ≡ moved l.unread.number (journal_place l.peers l.puts (lines_told l.unread.text.now));
   count : l.number + length (lines_told l.text) ≡ l.unread.number + length (lines_told l.unread.text.now);
   behind : lines_behind l.text ≡ lines_behind l.unread.text.now;
-  fits : longest_line l.text ≤ length l.room;
   longest : longest_line l.text ≤ longest_line l.unread.text.now;
   few : l.number + length l.text ≤ l.unread.number + length l.unread.text.now;
   shorter : length l.text ≤ length l.unread.text.now;

@@ -1,6 +1,5 @@
-use Rattle.std.proofs.Common.{◌≡◌, ap, sym, ◌∙◌, ◌∷◌, [], Option, Some, None, arith}
+use Rattle.std.proofs.Common.{◌≡◌, ap, sym, ◌∙◌, Option, Some, None, arith}
 use Rattle.std.specs.Prelude.{option_map}
-use Rattle.std.proofs.Math.ListN.{length-append}
 use Rattle.mc_journal.specs.Readers.{cut_at}
 use Rattle.report_text.specs.declared.outline.Outline.{Outline}
 use Rattle.report_text.specs.TextLines.{lines_in}
@@ -13,11 +12,6 @@ pub returns-in_err-line-clause-told : goal.returns-in_err-line-clause-told
 returns-in_err-line-clause-told c =
     let none : cut_at 10 c.args.text.now ≡ None = sym c.cut.ensures.value ∙ ap (option_map _) c.in_err-line.was in
     rw c.from_residual.ensures (told-uncut c.args.text.now none)
-
-pub read_outline-requires : goal.read_outline-requires
-read_outline-requires c =
-    let cut : cut_at 10 c.args.text.now ≡ Some (c.in_ok-line.line.now, c.in_ok-line.after.now) = sym c.cut.ensures.value ∙ ap (option_map _) c.in_ok-line.was in
-    omega (arith, longest-cut c.args.text.now (c.in_ok-line.line.now, c.in_ok-line.after.now) cut, length-append c.in_ok-line.line.now (10 ∷ []))
 
 pub returns-in_err-read_outline-clause-told : goal.returns-in_err-read_outline-clause-told
 returns-in_err-read_outline-clause-told c =
