@@ -293,7 +293,7 @@ module _ (peers : List ℕ) (script : List CallLine) (text rest : List ℕ) (way
     texts = take n.lines (lines_in rest)
 
     abbrev pub behind : List Part
-    behind = parts_from peers script n.behind.now
+    behind = parts_from peers script n.behind.text.now
 
     abbrev pub after : RunState
     after = after_all script at_front (part_entries peers next.part)
@@ -325,7 +325,7 @@ module _ (peers : List ℕ) (script : List CallLine) (text rest : List ℕ) (way
     pub lines-more : lines + n.lines ≤ length (texts_from text)
     lines-more = let count = w.count in omega (arith, count, all-lines)
 
-    place : wrong_on peers script way text ≡ moved lines (or_else (part_place script peers at_front next.part texts) (moved n.lines (step_place script peers after behind (texts_from n.behind.now))))
+    place : wrong_on peers script way text ≡ moved lines (or_else (part_place script peers at_front next.part texts) (moved n.lines (step_place script peers after behind (texts_from n.behind.text.now))))
     place =
         w.place
         ∙ (ap (λ ps. moved lines (step_place script peers at_front ps (texts_from rest))) next.parts
@@ -335,7 +335,7 @@ module _ (peers : List ℕ) (script : List CallLine) (text rest : List ℕ) (way
 
     -- one of its lines is wrong
     pub next-wrong : (k : ℕ) → Some k ≡ part_place script peers at_front next.part texts → wrong_on peers script way text ≡ Some (lines + k)
-    next-wrong k e = place ∙ ap (λ o. moved lines (or_else o (moved n.lines (step_place script peers after behind (texts_from n.behind.now))))) (sym e)
+    next-wrong k e = place ∙ ap (λ o. moved lines (or_else o (moved n.lines (step_place script peers after behind (texts_from n.behind.text.now))))) (sym e)
 
     pub wrong-within : (k : ℕ) → Some k ≡ part_place script peers at_front next.part texts → lines + k ≤ length (texts_from text)
     wrong-within k e = omega (arith, part-within script peers at_front next.part texts k (sym e), next-lines, lines-more)
@@ -387,13 +387,13 @@ module _ (peers : List ℕ) (script : List CallLine) (text rest : List ℕ) (way
         ap (deeds_on script way.first) (flat_map-append (part_entries peers) w.front (next.part ∷ []) ∙ ap (λ es. flat_map (part_entries peers) w.front ++ es) (append-nil (part_entries peers next.part)))
         ∙ deeds-join script way.first (flat_map (part_entries peers) w.front) (part_entries peers next.part)
 
-    pub next-right : (new : Run) → None ≡ part_place script peers at_front next.part texts → Makes script at_front (part_entries peers (due_part at_front.state next.part)) run new → Walking peers script way text n.behind.now (lines + n.lines) old new
+    pub next-right : (new : Run) → None ≡ part_place script peers at_front next.part texts → Makes script at_front (part_entries peers (due_part at_front.state next.part)) run new → Walking peers script way text n.behind.text.now (lines + n.lines) old new
     next-right new none at =
         let told = part-told peers (few peers script text way h) (apart peers script text way h) script (begun-short peers script text way h) next.part at_front texts w.going fit.0 first (sym none) in
         let due = part-due next.part fit.0 first (sym none) in
         let made : Makes script at_front (part_entries peers next.part) run new = subst (λ p. Makes script at_front (part_entries peers p) run new) due at in
         let count = w.count in
-        let left : length (texts_from n.behind.now) ≡ length (flat_map part_lines behind) = tell-length (texts_from n.behind.now) (flat_map part_lines behind) (subst (Tell (texts_from n.behind.now)) next.begins (text-tells n.behind.now)) in
+        let left : length (texts_from n.behind.text.now) ≡ length (flat_map part_lines behind) = tell-length (texts_from n.behind.text.now) (flat_map part_lines behind) (subst (Tell (texts_from n.behind.text.now)) next.begins (text-tells n.behind.text.now)) in
         record {
           front = w.front ++ next.part ∷ [];
           parts = w.parts ∙ (ap (λ ps. w.front ++ ps) next.parts ∙ sym (append_assoc w.front (next.part ∷ []) behind));
@@ -404,9 +404,9 @@ module _ (peers : List ℕ) (script : List CallLine) (text rest : List ℕ) (way
           begins = next.begins;
           place =
               place
-              ∙ (ap (λ o. moved lines (or_else o (moved n.lines (step_place script peers after behind (texts_from n.behind.now))))) (sym none)
-              ∙ (moved-moved lines n.lines (step_place script peers after behind (texts_from n.behind.now))
-              ∙ ap (λ q. moved (lines + n.lines) (step_place script peers q behind (texts_from n.behind.now))) (sym reached-next)));
+              ∙ (ap (λ o. moved lines (or_else o (moved n.lines (step_place script peers after behind (texts_from n.behind.text.now))))) (sym none)
+              ∙ (moved-moved lines n.lines (step_place script peers after behind (texts_from n.behind.text.now))
+              ∙ ap (λ q. moved (lines + n.lines) (step_place script peers q behind (texts_from n.behind.text.now))) (sym reached-next)));
           behind = next.rest ∙ w.behind;
           count = omega (arith, count, all-lines, left);
         }

@@ -43,14 +43,14 @@ Heads peers lines head.Call p = (ps : List (ℕ × List ℕ)) × (k : ℕ) × (a
 -- the part is the first, and the next begins behind its lines
 pub record IsNextPart (peers : List ℕ) (script : List CallLine) (text : List ℕ) (n : NextPart) : Type 0 where
   pub part : Part
-  pub parts : parts_from peers script text ≡ part ∷ parts_from peers script n.behind.now
+  pub parts : parts_from peers script text ≡ part ∷ parts_from peers script n.behind.text.now
   pub head : Heads peers (lines_of_texts (take n.lines (lines_in text))) n.head part
   pub lines : n.lines ≡ length (part_lines part)
-  pub texts : texts_from n.behind.now ≡ drop n.lines (texts_from text)
-  pub begins : BeginsPart peers script n.behind.now
-  pub rest : lines_behind n.behind.now ≡ lines_behind text
-  pub shorter : length n.behind.now < length text
-  pub fits : longest_line n.behind.now ≤ longest_line text
+  pub texts : texts_from n.behind.text.now ≡ drop n.lines (texts_from text)
+  pub begins : BeginsPart peers script n.behind.text.now
+  pub rest : lines_behind n.behind.text.now ≡ lines_behind text
+  pub shorter : length n.behind.text.now < length text
+  pub fits : longest_line n.behind.text.now ≤ longest_line text
 
 -- a text that begins with no line of a journal has no part
 abbrev pub FoundNext : List ℕ → List CallLine → List ℕ → Option NextPart → Type 0

@@ -27,7 +27,7 @@ fn has_ended(limit: u32, answer: Answer<'_>, wait: Waiting) -> bool
 }
 
 /// Compares the next line with that of an entry, if there is one.
-fn meets_one(entry: Option<Entry<'_>>, lines: &mut DueLines<'_>) -> Result<bool, NoMemory>
+fn meets_one(entry: Option<Entry<'_>>, lines: &mut DueLines<'_, '_>) -> Result<bool, NoMemory>
     ensures { IfOk result (λ is. Meets lines.old lines.new (option_to_list (option_map line_of_entry entry.entry)) is) }
 {
     match entry {
@@ -44,7 +44,7 @@ fn times_behind(puts: u64, times: Option<u64>) -> Option<u64>
 }
 
 /// The place of the first line that is not the one due, where those that are due were met, or not.
-pub(crate) fn place_after(lines: &DueLines<'_>, met: bool) -> Option<usize>
+pub(crate) fn place_after(lines: &DueLines<'_, '_>, met: bool) -> Option<usize>
     ensures { result ≡ place_behind lines.now met }
 {
     if met {
@@ -90,7 +90,7 @@ impl Run<'_> {
         &self,
         next: &NextCall<'_>,
         count: u64,
-        lines: &mut DueLines<'_>,
+        lines: &mut DueLines<'_, '_>,
     ) -> Result<bool, NoMemory>
         requires refusal { next.now.refusal ≡ refusal_of self.now.state.state next.now.line.now.node (plain_call next.now.call) }
         requires fits { FitsFrame (plain_call next.now.call) }
@@ -162,7 +162,7 @@ impl Run<'_> {
         &self,
         next: &NextCall<'_>,
         times: Option<u64>,
-        lines: &mut DueLines<'_>,
+        lines: &mut DueLines<'_, '_>,
     ) -> Result<bool, NoMemory>
         ghost r: { RunState }
         requires shows { Shows self.now r }
@@ -186,7 +186,7 @@ impl Run<'_> {
         &self,
         next: &NextCall<'_>,
         times: Option<u64>,
-        lines: &mut DueLines<'_>,
+        lines: &mut DueLines<'_, '_>,
     ) -> Result<bool, NoMemory>
         ghost r: { RunState }
         requires shows { Shows self.now r }
@@ -208,7 +208,7 @@ impl Run<'_> {
         &self,
         next: Option<&NextCall<'_>>,
         times: Option<u64>,
-        lines: &mut DueLines<'_>,
+        lines: &mut DueLines<'_, '_>,
     ) -> Result<bool, NoMemory>
         ghost r: { RunState }
         requires shows { Shows self.now r }
@@ -229,7 +229,7 @@ impl Run<'_> {
         &self,
         next: Option<&NextCall<'_>>,
         times: Option<u64>,
-        lines: &mut DueLines<'_>,
+        lines: &mut DueLines<'_, '_>,
     ) -> Result<Option<usize>, NoMemory>
         ghost r: { RunState }
         requires shows { Shows self.now r }

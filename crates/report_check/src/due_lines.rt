@@ -1,16 +1,17 @@
 //! The lines of a journal that are compared with those that are due.
 
-ghost use Rattle.std.specs.Prelude.{◌≡◌, ◌∷◌, [], ◌++◌, true, IfOk, MatchOption, OnOk, take};
+ghost use Rattle.std.specs.Prelude.{◌≡◌, ◌∷◌, [], ◌++◌, IfOk, IfSome, MatchOption, OnOk, take};
 ghost use Rattle.mc_journal.specs.Entry.{line_of_entry};
 ghost use Rattle.mc_journal.specs.EntryText.{entry_text};
+ghost use Rattle.report_text.specs.SpelledTexts.{IsSpelledText};
 ghost use Rattle.report_text.specs.TextLines.{lines_in};
 ghost use Rattle.report_check.specs.Meeting.{IsOtherLine, IsOtherText, Meets, place_at_end};
 
 use crate::same_entries::is_same;
 use mc_base::NoMemory;
-use mc_journal::{Entry, read_entry, write_entry};
+use mc_journal::{Entry, entries_have_entry_lines, write_entry};
 use outer_io::{Failed, Sink};
-use report_text::cut;
+use report_text::{SpelledText, cut};
 use std::alloc::Global;
 use std::marker::Model;
 
@@ -50,36 +51,29 @@ impl LineSink {
         Ok(())
     }
 
-    /// Whether a line, without its newline, reads as this entry. Where several entries have its text, it may read as another.
-    fn reads(&mut self, line: &[u8], entry: Entry<'_>) -> Result<bool, NoMemory>
-        ensures { IfOk result (λ is. is ≡ true → entry_text entry.entry ≡ line.now ++ 10 ∷ []) }
-    {
-        self.line.clear();
-        if self.line.extend_from_slice(line).is_err() {
-            return Err(NoMemory);
-        }
-        match read_entry(line, &mut self.line) {
-            Ok(read) => Ok(is_same(read, entry)),
-            Err(_) => Ok(false),
-        }
-    }
-
-    /// Returns what follows the first line of a text, if it is that of an entry. The line is read first, and the entry's is written only where
-    /// another is read: to write takes longer, since a writer clears all its room first.
-    fn behind_entry<'a>(
+    /// Returns what follows the first line of a text, if it is that of an entry. The entry's line is written only where another entry was read,
+    /// since two entries may have one text.
+    fn behind_entry<'l, 't>(
         &mut self,
-        text: &'a [u8],
+        text: SpelledText<'l, 't>,
         entry: Entry<'_>,
-    ) -> Result<Option<&'a [u8]>, NoMemory>
-        ensures { IfOk result (λ found. MatchOption found (IsOtherText (entry_text entry.entry) (lines_in text.now)) (λ rest. lines_in text.now ≡ entry_text entry.entry ∷ lines_in rest.now)) }
+    ) -> Result<Option<SpelledText<'l, 't>>, NoMemory>
+        requires { IsSpelledText text }
+        ensures found { IfOk result (λ found. MatchOption found (IsOtherText (entry_text entry.entry) (lines_in text.entry.text.now)) (λ rest. lines_in text.entry.text.now ≡ entry_text entry.entry ∷ lines_in rest.text.now)) }
+        ensures spelled { IfOk result (λ found. IfSome found IsSpelledText) }
     {
-        if let Some((first, rest)) = cut(b'\n', text) {
-            if self.reads(first, entry)? {
-                return Ok(Some(rest));
-            }
+        let Some((first, rest)) = text.next() else {
+            entries_have_entry_lines(entry);
+            return Ok(None);
+        };
+        if is_same(first, entry) {
+            return Ok(Some(rest));
         }
         self.set_line(entry)?;
-        Ok(behind_line(text, &self.line))
+        match behind_line(text.text, &self.line) {
+            Some(_) => Ok(Some(rest)),
+            None => Ok(None),
+        }
     }
 }
 
@@ -93,29 +87,31 @@ fn behind_line<'a>(text: &'a [u8], line: &[u8]) -> Option<&'a [u8]>
 
 /// The lines of a part of a journal that are still to be compared with the lines that are due, and how many of the part's were compared.
 #[derive(Drop)]
-pub struct DueLines<'a> {
-    text: &'a [u8],
+pub struct DueLines<'l, 't> {
+    text: SpelledText<'l, 't>,
     count: usize,
     place: usize,
     due: LineSink,
 }
 
-impl<'a> Model for DueLines<'a> {
+impl<'l, 't> Model for DueLines<'l, 't> {
     ghost use Rattle.std.specs.Prelude.{◌+◌, ◌<◌, ◌^◌, take};
+    ghost use Rattle.report_text.specs.SpelledTexts.{IsSpelledText};
     ghost use Rattle.report_text.specs.TextLines.{lines_in};
     ghost use Rattle.report_check.specs.Meeting.{LinesLeft};
 
     ghost Value = { LinesLeft };
 
-    ghost view = { λ d. record { texts = take d.count (lines_in d.text.now); place = d.place } };
+    ghost view = { λ d. record { texts = take d.count (lines_in d.text.text.now); place = d.place } };
 
-    ghost invariant = { λ d. d.place + d.count < 2 ^ 64 };
+    ghost invariant = { λ d. (d.place + d.count < 2 ^ 64) × IsSpelledText d.text };
 }
 
-impl DueLines<'_> {
+impl<'l, 't> DueLines<'l, 't> {
     /// Begins to compare the first lines of a text, as many as a part of a journal has.
-    pub fn new(alloc: Global, text: &[u8], count: usize) -> DueLines<'_>
-        ensures { result ≡ record { texts = take count (lines_in text.now); place = 0 } }
+    pub fn new(alloc: Global, text: SpelledText<'l, 't>, count: usize) -> DueLines<'l, 't>
+        requires { IsSpelledText text }
+        ensures { result ≡ record { texts = take count (lines_in text.entry.text.now); place = 0 } }
     {
         DueLines {
             text,
@@ -164,7 +160,7 @@ impl DueLines<'_> {
         if self.count == 0 {
             return None;
         }
-        if self.text.is_empty() {
+        if self.text.text.is_empty() {
             None
         } else {
             Some(self.place)

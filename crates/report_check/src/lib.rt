@@ -22,7 +22,7 @@ pub use cursor::{Head, NextPart, next_part};
 pub use due_lines::DueLines;
 pub use given::note_given;
 pub use passes::check;
-pub use report_text::{CheckReason, Verdict};
+pub use report_text::{CheckReason, SpelledText, Verdict, spelled_lines};
 pub use run::Run;
 pub use steps::{Walked, walk};
 pub use told_turn::{ToldTurn, read_told};

@@ -7,9 +7,10 @@ ghost use Rattle.board_model.specs.Step.{RunState};
 ghost use Rattle.report_replay.specs.Effects.{HasOwnAddresses};
 ghost use Rattle.report_text.specs.JournalRead.{lines_of_texts};
 ghost use Rattle.report_text.specs.StepPass.{part_place};
+ghost use Rattle.report_text.specs.SpelledTexts.{IsSpelledText};
 ghost use Rattle.report_text.specs.TextLines.{lines_in};
 ghost use Rattle.report_text.specs.TextPass.{puts_of_script};
-ghost use Rattle.report_text.specs.Texts.{longest_line};
+ghost use Rattle.report_text.specs.Texts.{lines_told, longest_line};
 ghost use Rattle.report_check.specs.Doing.{HasPeers};
 ghost use Rattle.report_check.specs.NextParts.{Heads};
 ghost use Rattle.report_check.specs.PartsWalked.{IsBegun, IsPartsWalked, IsSomeHead, IsWithin, Way, due_part};
@@ -20,6 +21,7 @@ use crate::due_lines::DueLines;
 use crate::run::Run;
 use crate::told_turn::read_told;
 use mc_base::NoMemory;
+use report_text::SpelledText;
 use std::alloc::Global;
 
 /// What is found of the parts of a journal.
@@ -36,8 +38,8 @@ impl Run<'_> {
         &mut self,
         alloc: Global,
         peers: &[u8],
-        text: &[u8],
-        part: NextPart<'_>,
+        text: SpelledText<'_, '_>,
+        part: NextPart<'_, '_>,
         room: &mut [u8],
     ) -> Result<Option<usize>, NoMemory>
         ghost r: { RunState }
@@ -48,11 +50,13 @@ impl Run<'_> {
         requires own { HasOwnAddresses r.state }
         requires lines { HasFitLines self.old }
         requires head { IsSomeHead part.head }
-        requires some { 0 < length (take part.lines (lines_in text.now)) }
-        requires room { longest_line text.now ≤ length room.old }
-        requires short { length text.now < 2 ^ 32 }
-        ensures place { (p : Part) → Heads peers.now (lines_of_texts (take part.entry.lines (lines_in text.now))) part.entry.head p → IfOk result (λ place. place ≡ part_place (script_of self.old) peers.now r p (take part.entry.lines (lines_in text.now))) }
-        ensures run { (p : Part) → Heads peers.now (lines_of_texts (take part.entry.lines (lines_in text.now))) part.entry.head p → IfOk result (λ place. place ≡ None → Makes (script_of self.old) r (part_entries peers.now (due_part r.state p)) self.old self.new) }
+        requires some { 0 < length (take part.lines (lines_in text.text.now)) }
+        requires room { longest_line text.text.now ≤ length room.old }
+        requires short { length text.text.now < 2 ^ 32 }
+        requires enough { part.lines ≤ length (lines_told text.text.now) }
+        requires spelled { IsSpelledText text }
+        ensures place { (p : Part) → Heads peers.now (lines_of_texts (take part.entry.lines (lines_in text.entry.text.now))) part.entry.head p → IfOk result (λ place. place ≡ part_place (script_of self.old) peers.now r p (take part.entry.lines (lines_in text.entry.text.now))) }
+        ensures run { (p : Part) → Heads peers.now (lines_of_texts (take part.entry.lines (lines_in text.entry.text.now))) part.entry.head p → IfOk result (λ place. place ≡ None → Makes (script_of self.old) r (part_entries peers.now (due_part r.state p)) self.old self.new) }
         ensures script { IfOk result (λ place. self.new.script ≡ self.old.script) }
     {
         let mut lines = DueLines::new(alloc, text, part.lines);
@@ -61,7 +65,7 @@ impl Run<'_> {
             Head::Spin { times } => self.spins(alloc, peers, times, &mut lines, room),
             Head::Again => self.tries(&mut lines),
             Head::Turn => {
-                let told = read_told(text, part.lines, room);
+                let told = read_told(text, part.lines);
                 self.turns(alloc, peers, &told, &mut lines, room)
             }
             Head::Wait => self.waits(&mut lines),
@@ -77,22 +81,23 @@ pub(crate) fn walk_parts<'a>(
     alloc: Global,
     peers: &[u8],
     puts: &[u64],
-    text: &'a [u8],
+    text: SpelledText<'_, 'a>,
     room: &mut [u8],
 ) -> Result<PartsWalked<'a>, NoMemory>
     ghost way: { Way }
-    requires begun { IsBegun peers.now (script_of run.old) text.now way }
+    requires begun { IsBegun peers.now (script_of run.old) text.text.now way }
     requires at { IsAt run.old way.first }
     requires puts { puts.now ≡ puts_of_script (script_of run.old) }
-    requires room { longest_line text.now ≤ length room.old }
-    requires short { length text.now < 2 ^ 32 }
-    ensures found { IfOk result (IsPartsWalked peers.now way text.now run.old run.new) }
-    ensures within { IfOk result (IsWithin text.now) }
+    requires room { longest_line text.text.now ≤ length room.old }
+    requires short { length text.text.now < 2 ^ 32 }
+    requires spelled { IsSpelledText text }
+    ensures found { IfOk result (IsPartsWalked peers.now way text.entry.text.now run.old run.new) }
+    ensures within { IfOk result (IsWithin text.entry.text.now) }
     ensures script { IfOk result (λ walked. run.new.script ≡ run.old.script) }
 {
     let mut lines = 0;
     let mut rest = text;
-    while let Some(part) = next_part(rest, puts, room) {
+    while let Some(part) = next_part(rest, puts) {
         if let Some(place) = run.part(alloc, peers, rest, part, room)? {
             return Ok(PartsWalked::Wrong {
                 place: lines + place,
@@ -103,6 +108,6 @@ pub(crate) fn walk_parts<'a>(
     }
     Ok(PartsWalked::Right {
         lines,
-        behind: rest,
+        behind: rest.text,
     })
 }

@@ -19,15 +19,20 @@ use crate::due_call::place_after;
 use crate::due_lines::DueLines;
 use crate::named_state::NamedState;
 use crate::run::{Run, Waiting, capped};
-use crate::told_turn::{ToldTurn, read_told};
+use crate::told_turn::{ToldTurn, told_idle};
 use crate::turn::turn;
 use mc_base::NoMemory;
 use mc_journal::Entry;
+use report_text::SpelledText;
 use std::alloc::Global;
 
 impl Run<'_> {
     /// The place of the first line that is not the one due, where no turn is.
-    fn place(&self, times: Option<u64>, lines: &mut DueLines<'_>) -> Result<Option<usize>, NoMemory>
+    fn place(
+        &self,
+        times: Option<u64>,
+        lines: &mut DueLines<'_, '_>,
+    ) -> Result<Option<usize>, NoMemory>
         ghost r: { RunState }
         requires at { IsAt self.now r }
         requires few { length self.now.script.now < 2 ^ 32 }
@@ -40,7 +45,7 @@ impl Run<'_> {
     }
 
     /// Makes a try that a line tells. Returns the place of the line that is due instead, if another is.
-    pub fn tries(&mut self, lines: &mut DueLines<'_>) -> Result<Option<usize>, NoMemory>
+    pub fn tries(&mut self, lines: &mut DueLines<'_, '_>) -> Result<Option<usize>, NoMemory>
         ghost r: { RunState }
         requires at { IsAt self.old r }
         requires few { length self.old.script.now < 2 ^ 32 }
@@ -56,7 +61,7 @@ impl Run<'_> {
     }
 
     /// Begins the wait that a line tells.
-    pub fn waits(&mut self, lines: &mut DueLines<'_>) -> Result<Option<usize>, NoMemory>
+    pub fn waits(&mut self, lines: &mut DueLines<'_, '_>) -> Result<Option<usize>, NoMemory>
         ghost r: { RunState }
         requires at { IsAt self.old r }
         requires few { length self.old.script.now < 2 ^ 32 }
@@ -78,7 +83,7 @@ impl Run<'_> {
     pub fn calls(
         &mut self,
         alloc: Global,
-        lines: &mut DueLines<'_>,
+        lines: &mut DueLines<'_, '_>,
     ) -> Result<Option<usize>, NoMemory>
         ghost r: { RunState }
         requires at { IsAt self.old r }
@@ -111,8 +116,12 @@ impl Run<'_> {
         ensures script { IfOk result (λ is. self.new.script ≡ self.old.script) }
         ensures deeds { IfOk result (λ is. is ≡ true → GoesOn self.old.state self.new.state (turn_deeds (idle_visits peers.now))) }
     {
-        let mut lines = DueLines::new(alloc, &[], 0);
-        let told = read_told(&[], 0, room);
+        let none = SpelledText {
+            text: &[],
+            lines: &[],
+        };
+        let mut lines = DueLines::new(alloc, none, 0);
+        let told = told_idle();
         let is = turn(&mut self.state, alloc, peers, &told, &mut lines, room)?;
         Ok(is)
     }
@@ -147,7 +156,7 @@ impl Run<'_> {
         alloc: Global,
         peers: &[u8],
         count: u64,
-        lines: &mut DueLines<'_>,
+        lines: &mut DueLines<'_, '_>,
         room: &mut [u8],
     ) -> Result<Option<usize>, NoMemory>
         ghost r: { RunState }
@@ -179,7 +188,7 @@ impl Run<'_> {
         alloc: Global,
         peers: &[u8],
         told: &ToldTurn<'_>,
-        lines: &mut DueLines<'_>,
+        lines: &mut DueLines<'_, '_>,
         room: &mut [u8],
     ) -> Result<Option<usize>, NoMemory>
         ghost r: { RunState }
@@ -204,7 +213,7 @@ fn meets_turn(
     alloc: Global,
     peers: &[u8],
     told: &ToldTurn<'_>,
-    lines: &mut DueLines<'_>,
+    lines: &mut DueLines<'_, '_>,
     room: &mut [u8],
 ) -> Result<bool, NoMemory>
     requires peers { AllByRecursion (λ n. n < 8) peers.now }

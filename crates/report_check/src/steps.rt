@@ -15,7 +15,8 @@ use board_model::{CallLine, DomainLine, Scenario};
 use mc_base::NoMemory;
 use report_replay::{FrameNames, State};
 use report_text::{
-    CheckReason, JournalLines, Numbered, neighbours_of_domain, numbers, script_puts,
+    CheckReason, JournalLines, Numbered, SpelledText, neighbours_of_domain, numbers, script_puts,
+    spelled_lines,
 };
 use std::alloc::Global;
 
@@ -106,7 +107,12 @@ pub fn walk<'a>(
     let mut run = Run::new(alloc, state, &script);
     let peers = numbers(alloc, &found)?;
     let puts = script_puts(alloc, scenario, line.domain)?;
-    match walk_parts(&mut run, alloc, &peers, &puts, journal.text, room)? {
+    let read = spelled_lines(alloc, journal.text)?;
+    let text = SpelledText {
+        text: journal.text,
+        lines: read.as_slice(),
+    };
+    match walk_parts(&mut run, alloc, &peers, &puts, text, room)? {
         PartsWalked::Wrong { place } => Ok(Walked::Wrong {
             line: journal.number + place as u32,
             reason: CheckReason::Step,

@@ -1,17 +1,18 @@
 //! What the lines of a turn tell of each peer.
 
-ghost use Rattle.std.specs.Prelude.{◌≡◌, ◌≤◌, ◌<◌, ◌^◌, ◌++◌, ◌∷◌, [], ℕ, List, Some, length, option_map, option_to_list, take};
+ghost use Rattle.std.specs.Prelude.{◌≡◌, ◌-◌, ◌≤◌, ◌<◌, ◌^◌, ◌++◌, ◌∷◌, [], ℕ, List, Some, length, take};
 ghost use Rattle.mc_journal.specs.Entry.{line_of_entry};
-ghost use Rattle.mc_journal.specs.LineForms.{line_in};
+ghost use Rattle.mc_journal.specs.Spelled.{AreDigits, frame_digits, spelled_line};
 ghost use Rattle.report_text.specs.JournalRead.{lines_of_texts};
 ghost use Rattle.report_text.specs.LaneLines.{LaneLine, lane_of};
-ghost use Rattle.report_text.specs.Texts.{longest_line};
+ghost use Rattle.report_text.specs.SpelledTexts.{IsSpelledText};
+ghost use Rattle.report_text.specs.Texts.{lines_told, longest_line};
 ghost use Rattle.report_text.specs.TextLines.{lines_in};
 ghost use Rattle.report_check.specs.ToldTurns.{AreShort, AreToldPeers, GrowLittle, GrowsLittle, HasRoom, HasShortLines, HaveRoom, IsToldOn, IsToldTurn, frame_on, frame_told, peer_on, told_with, with_line};
 ghost use Rattle.std.specs.List.{AllByRecursion};
 
-use mc_journal::{Entry, entries_have_entry_lines, read_entry};
-use report_text::cut;
+use mc_journal::{Entry, bytes_spelled, spelled_entry};
+use report_text::SpelledText;
 
 /// What the lines of a turn tell of a peer: how many buffers came back, how many frames a look showed, and the lines of the first frames that
 /// were taken, without their newlines. Where fewer were taken, empty lines stand behind them.
@@ -34,28 +35,27 @@ pub fn told_frame<'r>(line: &[u8], room: &'r mut [u8]) -> &'r [u8]
     requires { length line.now ≤ length room.old }
     ensures { result.now ≡ frame_told line.now }
 {
-    match read_entry(line, room) {
-        Ok(entry) => {
-            entries_have_entry_lines(entry);
-            frame_of(entry)
-        }
-        Err(_) => &[0],
+    match spelled_entry(line) {
+        Some(entry) => frame_of(entry, room),
+        None => &[0],
     }
 }
 
-/// The frame that an entry tells was taken.
-fn frame_of<'r>(entry: Entry<'r>) -> &'r [u8]
-    ensures { result.now ≡ frame_on (Some (lane_of (line_of_entry entry.entry))) }
+/// The frame that an entry tells was taken. Its bytes stand in `room`.
+fn frame_of<'r>(entry: Entry<'_>, room: &'r mut [u8]) -> &'r [u8]
+    requires digits { AreDigits (frame_digits entry) }
+    requires room { length (frame_digits entry) ≤ length room.old }
+    ensures { result.now ≡ frame_on (Some (lane_of (spelled_line (line_of_entry entry.entry)))) }
 {
     match entry {
-        Entry::Take { frame, .. } => frame,
+        Entry::Take { frame, .. } => bytes_spelled(frame, room),
         _ => &[0],
     }
 }
 
 /// The peer of which an entry tells what its lanes showed.
 fn peer_of(entry: Entry<'_>) -> Option<u8>
-    ensures { result ≡ peer_on (lane_of (line_of_entry entry.entry)) }
+    ensures { result ≡ peer_on (lane_of (spelled_line (line_of_entry entry.entry))) }
 {
     match entry {
         Entry::Back { peer, .. } | Entry::See { peer, .. } => Some(peer),
@@ -99,7 +99,7 @@ fn with_take<'a>(told: ToldPeer<'a>, line: &'a [u8]) -> ToldPeer<'a>
 /// What is told of a peer with the line of one more entry, which tells of it.
 fn noted<'a>(told: ToldPeer<'a>, entry: Entry<'_>, line: &'a [u8]) -> ToldPeer<'a>
     requires { HasRoom told }
-    ensures told { result ≡ told_with line.entry (lane_of (line_of_entry entry.entry)) told.entry }
+    ensures told { result ≡ told_with line.entry (lane_of (spelled_line (line_of_entry entry.entry))) told.entry }
     ensures growth { GrowsLittle told.entry result }
 {
     match entry {
@@ -123,7 +123,7 @@ fn noted<'a>(told: ToldPeer<'a>, entry: Entry<'_>, line: &'a [u8]) -> ToldPeer<'
 /// Notes the line of an entry.
 fn note<'a>(peers: &mut [ToldPeer<'a>; 8], entry: Entry<'_>, line: &'a [u8])
     requires { HaveRoom peers.old }
-    ensures told { (ks : List LaneLine) → frame_told line.now ≡ frame_on (Some (lane_of (line_of_entry entry.entry))) → AreToldPeers peers.old ks → AreToldPeers peers.new (ks ++ lane_of (line_of_entry entry.entry) ∷ []) }
+    ensures told { (ks : List LaneLine) → frame_told line.now ≡ frame_on (Some (lane_of (spelled_line (line_of_entry entry.entry)))) → AreToldPeers peers.old ks → AreToldPeers peers.new (ks ++ lane_of (spelled_line (line_of_entry entry.entry)) ∷ []) }
     ensures growth { GrowLittle peers.old peers.new }
     ensures short { (size : ℕ) → AllByRecursion (HasShortLines size) peers.old → length line.now ≤ size → AllByRecursion (HasShortLines size) peers.new }
 {
@@ -136,35 +136,30 @@ fn note<'a>(peers: &mut [ToldPeer<'a>; 8], entry: Entry<'_>, line: &'a [u8])
     }
 }
 
-/// Reads a line, and notes it if it is that of an entry.
-fn note_line<'a>(peers: &mut [ToldPeer<'a>; 8], line: &'a [u8], room: &mut [u8])
-    requires fits { length line.now ≤ length room.old }
-    requires room { HaveRoom peers.old }
-    ensures told { (ks : List LaneLine) → AreToldPeers peers.old ks → AreToldPeers peers.new (ks ++ option_to_list (option_map lane_of (line_in line.now))) }
-    ensures growth { GrowLittle peers.old peers.new }
-    ensures short { (size : ℕ) → AllByRecursion (HasShortLines size) peers.old → length line.now ≤ size → AllByRecursion (HasShortLines size) peers.new }
+/// Returns the line that stands before another text, without its newline.
+fn line_before<'t>(text: &'t [u8], after: &[u8]) -> &'t [u8]
+    requires { length after.now < length text.now }
+    ensures { result.now ≡ take (length text.now - length after.now - 1) text.now }
 {
-    let Ok(entry) = read_entry(line, room) else {
-        return;
-    };
-    entries_have_entry_lines(entry);
-    note(peers, entry, line);
+    let (line, _) = text.split_at(text.len() - after.len() - 1);
+    line
 }
 
-/// Reads what the first lines of a text, those of a turn, tell of each peer. `room` is as long as the longest line.
-pub fn read_told<'a>(text: &'a [u8], lines: usize, room: &mut [u8]) -> ToldTurn<'a>
-    requires fits { longest_line text.now ≤ length room.old }
-    requires few { length text.now < 2 ^ 32 }
-    ensures told { IsToldTurn result (lines_of_texts (take lines (lines_in text.now))) }
-    ensures short { (size : ℕ) → longest_line text.now ≤ size → AreShort size result }
+/// Reads what the first lines of the journal at the front of a text, those of a turn, tell of each peer.
+pub fn read_told<'t>(text: SpelledText<'_, 't>, lines: usize) -> ToldTurn<'t>
+    requires spelled { IsSpelledText text }
+    requires enough { lines ≤ length (lines_told text.text.now) }
+    requires few { length text.text.now < 2 ^ 32 }
+    ensures told { IsToldTurn result (lines_of_texts (take lines (lines_in text.entry.text.now))) }
+    ensures short { (size : ℕ) → longest_line text.entry.text.now ≤ size → AreShort size result }
 {
     let mut peers = [told_nothing(); 8];
     let mut rest = text;
     for _done in 0..lines {
-        let Some((line, after)) = cut(b'\n', rest) else {
+        let Some((entry, after)) = rest.next() else {
             return ToldTurn { peers };
         };
-        note_line(&mut peers, line, room);
+        note(&mut peers, entry, line_before(rest.text, after.text));
         rest = after;
     }
     ToldTurn { peers }

@@ -20,7 +20,7 @@ use mc_journal::Entry;
 use std::alloc::Global;
 
 /// Compares the line of a look with the next. A look that showed nothing has none.
-fn meets_look(lines: &mut DueLines<'_>, look: Entry<'_>, count: u32) -> Result<bool, NoMemory>
+fn meets_look(lines: &mut DueLines<'_, '_>, look: Entry<'_>, count: u32) -> Result<bool, NoMemory>
     ensures { IfOk result (λ is. Meets lines.old lines.new (looked (λ n. line_of_entry look.entry) count) is) }
 {
     if count == 0 {
@@ -34,7 +34,7 @@ fn put_owed_frames(
     state: &mut NamedState,
     peer: u8,
     most: u8,
-    lines: &mut DueLines<'_>,
+    lines: &mut DueLines<'_, '_>,
 ) -> Result<bool, NoMemory>
     ensures { (p : Peer) → peer_of (plain state.old) peer ≡ Some p → IfOk result (λ is. PutsDone state.old state.new lines.old lines.new peer (owed_first most state.old.state.number p) is) }
 {
@@ -65,7 +65,7 @@ fn take_frames(
     alloc: Global,
     peer: u8,
     takes: &[&[u8]],
-    lines: &mut DueLines<'_>,
+    lines: &mut DueLines<'_, '_>,
     room: &mut [u8],
 ) -> Result<bool, NoMemory>
     requires peer { peer < 8 }
@@ -89,7 +89,7 @@ fn visit(
     alloc: Global,
     peer: u8,
     told: &ToldPeer<'_>,
-    lines: &mut DueLines<'_>,
+    lines: &mut DueLines<'_, '_>,
     room: &mut [u8],
 ) -> Result<bool, NoMemory>
     requires peer { peer < 8 }
@@ -122,7 +122,7 @@ pub fn turn(
     alloc: Global,
     peers: &[u8],
     told: &ToldTurn<'_>,
-    lines: &mut DueLines<'_>,
+    lines: &mut DueLines<'_, '_>,
     room: &mut [u8],
 ) -> Result<bool, NoMemory>
     requires peers { AllByRecursion (λ n. n < 8) peers.now }

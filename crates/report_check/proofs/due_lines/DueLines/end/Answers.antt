@@ -10,11 +10,11 @@ empty [] e = refl
 empty (b ∷ bs) e = absurd (grind (arith, nat_tests))
 
 pub returns-then-self-eq0 : goal.returns-then-self-eq0
-returns-then-self-eq0 c = end-none c.self.inside.count c.self.inside.place c.self.inside.text.now c.if-self-eq0.true ∙ ap place_at_end c.self.view_is
+returns-then-self-eq0 c = end-none c.self.inside.count c.self.inside.place c.self.inside.text.text.now c.if-self-eq0.true ∙ ap place_at_end c.self.view_is
 
 pub returns-then-is_empty : goal.returns-then-is_empty
 returns-then-is_empty c =
-    end-empty c.self.inside.count c.self.inside.place c.self.inside.text.now (empty c.self.inside.text.now (sym c.is_empty.ensures ∙ c.if-is_empty.true)) ∙ ap place_at_end c.self.view_is
+    end-empty c.self.inside.count c.self.inside.place c.self.inside.text.text.now (empty c.self.inside.text.text.now (sym c.is_empty.ensures ∙ c.if-is_empty.true)) ∙ ap place_at_end c.self.view_is
 
 pub returns-else-is_empty : goal.returns-else-is_empty
-returns-else-is_empty c = end-some c.self.inside.count c.self.inside.place c.self.inside.text.now (omega arith) (sym c.is_empty.ensures ∙ c.if-is_empty.false) ∙ ap place_at_end c.self.view_is
+returns-else-is_empty c = end-some c.self.inside.count c.self.inside.place c.self.inside.text.text.now (omega arith) (sym c.is_empty.ensures ∙ c.if-is_empty.false) ∙ ap place_at_end c.self.view_is

@@ -11,7 +11,7 @@ use Rattle.report_check.proofs.run.Run.part.Goals as goal
 
 pub returns-in-Again-clause-run : goal.returns-in-Again-clause-run
 returns-in-Again-clause-run g c p heads =
-    let texts = take c.args.part.lines (lines_in c.args.text.now) in
+    let texts = take c.args.part.lines (lines_in c.args.text.text.now) in
     let script = script_of c.args.self.now in
     on-ok _ _ c.tries.result
     (λ place at none. try-leads c.args.peers.now script g.r (lines_of_texts texts) texts c.args.self.now c.tries.new.self p c.args.part.head heads c.in-Again.is at)
@@ -19,7 +19,7 @@ returns-in-Again-clause-run g c p heads =
 
 pub returns-in-Turn-clause-place : goal.returns-in-Turn-clause-place
 returns-in-Turn-clause-place g c p heads =
-    let texts = take c.args.part.lines (lines_in c.args.text.now) in
+    let texts = take c.args.part.lines (lines_in c.args.text.text.now) in
     let ls = lines_of_texts texts in
     if-ok _ _ c.turns.result
     (λ place e. turn-place-is c.args.peers.now (script_of c.args.self.now) g.r ls texts c.args.self.now c.turns.new.self p c.args.part.head heads c.in-Turn.is place (e ∙ ap (λ (l : LinesLeft). other_than (turn_line ∷ due_lines g.r (map (visit_in ls) c.args.peers.now)) l.texts) c.new-lines.ensures))
@@ -27,7 +27,7 @@ returns-in-Turn-clause-place g c p heads =
 
 pub returns-in-Turn-clause-run : goal.returns-in-Turn-clause-run
 returns-in-Turn-clause-run g c p heads =
-    let texts = take c.args.part.lines (lines_in c.args.text.now) in
+    let texts = take c.args.part.lines (lines_in c.args.text.text.now) in
     let ls = lines_of_texts texts in
     if-ok _ _ c.turns.result
     (λ place at none. turn-leads c.args.peers.now (script_of c.args.self.now) g.r ls texts c.args.self.now c.turns.new.self p c.args.part.head heads c.in-Turn.is (at none))
@@ -35,7 +35,7 @@ returns-in-Turn-clause-run g c p heads =
 
 pub returns-in-Wait-clause-run : goal.returns-in-Wait-clause-run
 returns-in-Wait-clause-run g c p heads =
-    let texts = take c.args.part.lines (lines_in c.args.text.now) in
+    let texts = take c.args.part.lines (lines_in c.args.text.text.now) in
     let script = script_of c.args.self.now in
     on-ok _ _ c.waits.result
     (λ place at none. wait-leads c.args.peers.now script g.r (lines_of_texts texts) texts c.args.self.now c.waits.new.self p c.args.part.head heads c.in-Wait.is at)
@@ -43,7 +43,7 @@ returns-in-Wait-clause-run g c p heads =
 
 pub returns-clause-run : goal.returns-clause-run
 returns-clause-run g c p heads =
-    let texts = take c.args.part.lines (lines_in c.args.text.now) in
+    let texts = take c.args.part.lines (lines_in c.args.text.text.now) in
     let script = script_of c.args.self.now in
     let number = call-number c.args.peers.now script g.r (lines_of_texts texts) texts c.args.self.now c.calls.new.self p c.args.part.head heads c.in-Call.is in
     let answer = call-answer c.args.peers.now script g.r (lines_of_texts texts) texts c.args.self.now c.calls.new.self p c.args.part.head heads c.in-Call.is in
