@@ -28,14 +28,12 @@ fn count_take(takes: &mut [u32; 8], line: Outline) {
     }
 }
 
-/// Finds the first group of lines in a text that begins with lines of a journal, or `None` where it does not. `room` is as long as the
-/// longest line.
-pub fn next_group<'a>(text: &'a [u8], room: &mut [u8]) -> Option<Group<'a>>
-    requires { longest_line text.now ≤ length room.old }
+/// Finds the first group of lines in a text that begins with lines of a journal, or `None` where it does not.
+pub fn next_group(text: &[u8]) -> Option<Group<'_>>
     ensures shorter { IfSome result (λ g. length g.behind.now < length text.now) }
     ensures fits { IfSome result (λ g. longest_line g.behind.now ≤ longest_line text.now) }
 {
-    let (first, after) = next_line(text, room)?;
+    let (first, after) = next_line(text)?;
     let mut line = first;
     let mut lines: u32 = 1;
     let mut rest = after;
@@ -51,7 +49,7 @@ pub fn next_group<'a>(text: &'a [u8], room: &mut [u8]) -> Option<Group<'a>>
                 behind: rest,
             });
         }
-        let Some((next, behind)) = next_line(rest, room) else {
+        let Some((next, behind)) = next_line(rest) else {
             return Some(Group {
                 lines,
                 call: None,

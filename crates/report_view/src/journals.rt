@@ -1,26 +1,24 @@
 //! The journals of a report, one behind the other.
 
-ghost use Rattle.std.specs.Prelude.{◌≡◌, ◌≤◌, ◌++◌, ◌∷◌, [], ℕ, IfOk, OnOk, drop, length, map};
+ghost use Rattle.std.specs.Prelude.{◌≡◌, ◌++◌, ◌∷◌, [], ℕ, IfOk, OnOk, drop, map};
 ghost use Rattle.report_text.specs.JournalRead.{journals_at};
 ghost use Rattle.report_text.specs.ScenarioPart.{rest as rest_at};
 ghost use Rattle.report_text.specs.TextLines.{lines_in};
-ghost use Rattle.report_text.specs.Texts.{lines_behind, longest_line as length_of_longest};
+ghost use Rattle.report_text.specs.Texts.{lines_behind};
 ghost use Rattle.report_view.specs.Journals.{in_report, in_view};
 
 use board_model::DomainLine;
 use mc_base::NoMemory;
-use report_text::{JournalLines, cut, longest_line, next_line};
+use report_text::{JournalLines, cut, next_line};
 use std::alloc::Global;
 
 /// Counts the lines of the journal at the front of a text, and returns the text behind them.
-fn pass_journal<'a>(text: &'a [u8], room: &mut [u8]) -> (u32, &'a [u8])
-    requires { length_of_longest text.now ≤ length room.old }
-    ensures fits { length_of_longest result.1.now ≤ length_of_longest text.now }
-    ensures behind { lines_in result.1.now ≡ lines_behind text.now }
+fn pass_journal(text: &[u8]) -> (u32, &[u8])
+    ensures { lines_in result.1.now ≡ lines_behind text.now }
 {
     let mut lines: u32 = 0;
     let mut rest = text;
-    while let Some((_, after)) = next_line(rest, room) {
+    while let Some((_, after)) = next_line(rest) {
         lines = lines.saturating_add(1);
         rest = after;
     }
@@ -29,8 +27,7 @@ fn pass_journal<'a>(text: &'a [u8], room: &mut [u8]) -> (u32, &'a [u8])
 
 /// Passes over the line that heads a journal.
 fn behind_heading(text: &[u8]) -> &[u8]
-    ensures fits { length_of_longest result.now ≤ length_of_longest text.now }
-    ensures lines { lines_in result.now ≡ drop 1 (lines_in text.now) }
+    ensures { lines_in result.now ≡ drop 1 (lines_in text.now) }
 {
     match cut(b'\n', text) {
         Some((_, rest)) => rest,
@@ -54,9 +51,7 @@ fn add_journals<'a>(
     domains: &[DomainLine],
     number: u32,
     text: &'a [u8],
-    room: &mut [u8],
 ) -> Result<(), NoMemory>
-    requires { length_of_longest text.now ≤ length room.old }
     ensures { OnOk result ((n : ℕ) → map in_view journals.new.items ≡ map in_view journals.old.items ++ map in_report (journals_at domains.now (rest_at n (lines_in text.now)))) }
 {
     let [line, others @ ..] = domains else {
@@ -69,9 +64,9 @@ fn add_journals<'a>(
         text: entries,
     };
     add(journals, journal)?;
-    let (lines, behind) = pass_journal(entries, room);
+    let (lines, behind) = pass_journal(entries);
     let next = journal.number.saturating_add(lines);
-    add_journals(journals, others, next, behind, room)
+    add_journals(journals, others, next, behind)
 }
 
 /// Returns the journals of these domains, which stand in a text that begins with the line of this number.
@@ -83,10 +78,7 @@ pub fn journals_of<'a>(
 ) -> Result<Vec<JournalLines<'a>>, NoMemory>
     ensures { IfOk result (λ journals. (n : ℕ) → map in_view journals.items ≡ map in_report (journals_at domains.now (rest_at n (lines_in text.now)))) }
 {
-    let Ok(mut room) = vec![in alloc; 0u8; longest_line(text)] else {
-        return Err(NoMemory);
-    };
     let mut journals = Vec::new(alloc);
-    add_journals(&mut journals, domains, number, text, &mut room)?;
+    add_journals(&mut journals, domains, number, text)?;
     Ok(journals)
 }

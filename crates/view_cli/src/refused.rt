@@ -6,14 +6,13 @@ ghost use Rattle.std.specs.List.{flat_map};
 ghost use Rattle.outer_io.specs.Faults.{HasCause};
 ghost use Rattle.outer_io.specs.Puts.{Puts};
 ghost use Rattle.outer_io.specs.Writes.{Writes};
-ghost use Rattle.report_view.specs.Rooms.{FitsIn};
 ghost use Rattle.view_cli.specs.RefusedCalls.{ListsRefused, place_of, refused_by, refused_line, refused_of};
 ghost use Rattle.view_cli.specs.Statuses.{Shows};
 
 use crate::status::{self, after_write};
 use mc_base::NoMemory;
 use outer_io::{Failed, Sink, Writer};
-use report_text::{Outline, longest_line, next_line};
+use report_text::{Outline, next_line};
 use report_view::{DomainView, ScriptLine, View, answer_in};
 use std::alloc::Global;
 
@@ -59,13 +58,11 @@ fn add_call<'a>(
 fn add_refused<'a>(
     calls: &mut Vec<RefusedCall<'a>>,
     domain: &DomainView<'a>,
-    room: &mut [u8],
 ) -> Result<(), NoMemory>
-    requires { FitsIn (length room.old) domain.now }
     ensures { OnOk result (map place_of calls.new.items ≡ map place_of calls.old.items ++ refused_of domain.now) }
 {
     let mut rest = domain.journal.text;
-    while let Some((line, after)) = next_line(rest, room) {
+    while let Some((line, after)) = next_line(rest) {
         add_call(calls, domain, line, rest)?;
         rest = after;
     }
@@ -73,21 +70,14 @@ fn add_refused<'a>(
 }
 
 /// Adds the calls of these domains that were refused, domain by domain.
-fn add_all<'a>(
-    alloc: Global,
-    calls: &mut Vec<RefusedCall<'a>>,
-    domains: &[DomainView<'a>],
-) -> Result<(), NoMemory>
+fn add_all<'a>(calls: &mut Vec<RefusedCall<'a>>, domains: &[DomainView<'a>]) -> Result<(), NoMemory>
     ensures { OnOk result (map place_of calls.new.items ≡ map place_of calls.old.items ++ flat_map refused_of domains.now) }
 {
     let [first, others @ ..] = domains else {
         return Ok(());
     };
-    let Ok(mut room) = vec![in alloc; 0u8; longest_line(first.journal.text)] else {
-        return Err(NoMemory);
-    };
-    add_refused(calls, first, &mut room)?;
-    add_all(alloc, calls, others)
+    add_refused(calls, first)?;
+    add_all(calls, others)
 }
 
 /// Returns the calls that were refused, domain by domain.
@@ -98,7 +88,7 @@ fn refused_calls<'a>(
     ensures { IfOk result (λ calls. map place_of calls.items ≡ flat_map refused_of domains.now) }
 {
     let mut calls = Vec::new(alloc);
-    add_all(alloc, &mut calls, domains)?;
+    add_all(&mut calls, domains)?;
     Ok(calls)
 }
 

@@ -1,11 +1,8 @@
 //! The lines of a report's journals that answer calls.
 
-ghost use Rattle.std.specs.Prelude.{◌≡◌, ◌++◌, ◌∷◌, [], ◌≤◌, IfOk, OnOk, Some, length, map, option_map};
-ghost use Rattle.std.specs.List.{AllByRecursion};
+ghost use Rattle.std.specs.Prelude.{◌≡◌, ◌++◌, ◌∷◌, [], IfOk, OnOk, Some, map, option_map};
 ghost use Rattle.report_text.specs.JournalRead.{told_texts};
 ghost use Rattle.report_text.specs.TextLines.{lines_in};
-ghost use Rattle.report_text.specs.Texts.{longest_line};
-ghost use Rattle.report_view.specs.Rooms.{FitsIn};
 ghost use Rattle.view_expect.specs.Answers.{answers_of, call_texts, calls_in, is_call as is_a_call, told_answers, when_call};
 
 use crate::lines::first_line;
@@ -45,13 +42,12 @@ fn add_line<'a>(lines: &mut Vec<&'a [u8]>, line: &'a [u8]) -> Result<(), NoMemor
 }
 
 /// Returns the lines of the journal at the front of a text that answer calls.
-fn call_lines<'a>(alloc: Global, text: &'a [u8], room: &mut [u8]) -> Result<Vec<&'a [u8]>, NoMemory>
-    requires { longest_line text.now ≤ length room.old }
+fn call_lines<'a>(alloc: Global, text: &'a [u8]) -> Result<Vec<&'a [u8]>, NoMemory>
     ensures { IfOk result (λ v. call_texts v.items ≡ calls_in (told_texts (lines_in text.now))) }
 {
     let mut lines = Vec::new(alloc);
     let mut rest = text;
-    while let Some(_) = next_line(rest, room) {
+    while let Some(_) = next_line(rest) {
         let (line, after) = first_line(rest);
         add_line(&mut lines, line)?;
         rest = after;
@@ -78,29 +74,25 @@ fn add_all<'a>(
     alloc: Global,
     all: &mut Vec<Answers<'a>>,
     domains: &[DomainView<'a>],
-    room: &mut [u8],
 ) -> Result<(), NoMemory>
-    requires { AllByRecursion (FitsIn (length room.old)) domains.now }
     ensures { OnOk result (map told_answers all.new.items ≡ map told_answers all.old.items ++ map answers_of domains.now) }
 {
     let [first, others @ ..] = domains else {
         return Ok(());
     };
-    let lines = call_lines(alloc, first.journal.text, room)?;
+    let lines = call_lines(alloc, first.journal.text)?;
     add_answers(all, first.journal.domain, lines)?;
-    add_all(alloc, all, others, room)
+    add_all(alloc, all, others)
 }
 
 /// Returns the answers of these domains.
 pub fn all_answers<'a>(
     alloc: Global,
     domains: &[DomainView<'a>],
-    room: &mut [u8],
 ) -> Result<Vec<Answers<'a>>, NoMemory>
-    requires { AllByRecursion (FitsIn (length room.old)) domains.now }
     ensures { IfOk result (λ all. map told_answers all.items ≡ map answers_of domains.now) }
 {
     let mut all = Vec::new(alloc);
-    add_all(alloc, &mut all, domains, room)?;
+    add_all(alloc, &mut all, domains)?;
     Ok(all)
 }

@@ -9,7 +9,7 @@ use crate::answers::{Answers, all_answers};
 use crate::expectation::Expectation;
 use crate::file::add_bytes;
 use mc_base::NoMemory;
-use report_view::{View, answer_in, room_for};
+use report_view::{View, answer_in};
 use std::alloc::Global;
 
 /// What became of an expectation: whether the report answers so, and what it answers.
@@ -129,8 +129,7 @@ pub fn compare<'o>(
 ) -> Result<Vec<Outcome<'o>>, NoMemory>
     ensures { IfOk result (λ v. map verdict_of v.items ≡ map (outcome_on (map answers_of view.now.domains.items)) expectations.now) }
 {
-    let mut room = room_for(alloc, &view.domains)?;
-    let all = all_answers(alloc, &view.domains, &mut room)?;
+    let all = all_answers(alloc, &view.domains)?;
     let mut outcomes = Vec::new(alloc);
     add_outcomes(alloc, &mut outcomes, &all, expectations)?;
     Ok(outcomes)

@@ -49,7 +49,7 @@ impl CallLines {
     ) -> Option<CallLines>
         requires { longest_line text.now ≤ length room.old }
     {
-        let group = next_group(text, room)?;
+        let group = next_group(text)?;
         Some(CallLines {
             left: group.lines,
             first,

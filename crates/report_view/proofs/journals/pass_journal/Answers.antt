@@ -5,7 +5,7 @@ use Rattle.report_text.specs.Texts.{lines_told, told_front}
 use Rattle.report_text.proofs.TextCuts.{behind-all}
 use Rattle.report_view.proofs.journals.pass_journal.Goals as goal
 
-pub returns-clause-behind : goal.returns-clause-behind
-returns-clause-behind c =
+pub returns : goal.returns
+returns c =
     let none : lines_told c.loop-after.rest.now ≡ [] = c.next_line.ensures.told ∙ ap (λ o. told_front (option_map (λ x. (x.0, x.1.now)) o)) c.in_default.is in
-    sym (behind-all (lines_in c.loop-after.rest.now) none) ∙ c.loop-after.invariant.behind
+    sym (behind-all (lines_in c.loop-after.rest.now) none) ∙ c.loop-after.invariant

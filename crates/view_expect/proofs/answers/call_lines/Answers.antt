@@ -11,4 +11,4 @@ returns c =
     let none : lines_told c.loop-line.rest.now ≡ [] = c.next_line.ensures.told ∙ ap (λ o. told_front (option_map (λ x. (x.0, x.1.now)) o)) c.in_default.is in
     sym (append-nil (call_texts c.loop-line.lines.items))
     ∙ ap (λ (ts : List (List ℕ)). call_texts c.loop-line.lines.items ++ calls_in ts) (sym (told-none (lines_in c.loop-line.rest.now) none))
-    ∙ c.loop-line.invariant.lines
+    ∙ c.loop-line.invariant

@@ -1,7 +1,6 @@
-use Rattle.std.proofs.Common.{◌≡◌, ◌≤◌, ◌++◌, length}
+use Rattle.std.proofs.Common.{◌≡◌, ◌++◌, length}
 use Rattle.report_text.specs.JournalRead.{told_texts}
 use Rattle.report_text.specs.TextLines.{lines_in}
-use Rattle.report_text.specs.Texts.{longest_line}
 use Rattle.view_expect.specs.Answers.{call_texts, calls_in}
 use Rattle.view_expect.proofs.answers.call_lines.Given as goal
 
@@ -9,7 +8,4 @@ abbrev pub decreases-loop-line : goal.decreases-loop-line
 decreases-loop-line l = length l.rest
 
 abbrev pub invariant-loop-line : goal.invariant-loop-line
-invariant-loop-line l = record {
-  fits : longest_line l.rest ≤ length l.room;
-  lines : call_texts l.lines.items ++ calls_in (told_texts (lines_in l.rest)) ≡ calls_in (told_texts (lines_in l.text));
-}
+invariant-loop-line l = call_texts l.lines.items ++ calls_in (told_texts (lines_in l.rest)) ≡ calls_in (told_texts (lines_in l.text))
