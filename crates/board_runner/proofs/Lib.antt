@@ -68,5 +68,14 @@ pub mod WaitRuns
 pub mod WaitTests
 pub mod WaitRounds
 pub mod OwnWaits
+pub mod AnswerFormLemmas
 pub mod AnswerLemmas
 pub mod PacedWaits
+pub mod ActorLogLemmas
+pub mod RunningLemmas
+pub mod ScriptLemmas
+pub mod ToldLines
+pub mod ActingLemmas
+pub mod ActorPlaces
+pub mod ActorJobLemmas
+pub mod ActorBoards

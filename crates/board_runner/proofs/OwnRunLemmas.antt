@@ -42,7 +42,7 @@ use Rattle.board_runner.specs.declared.station.Station.{Station}
 use Rattle.board_runner.specs.declared.line.Made.{Made}
 use Rattle.board_runner.specs.Lines.{call_by, call_at_station, NotesAgain, NotesCalled, NotesAnswer, Tries}
 use Rattle.board_runner.specs.Near.{RunEnds, RunDomain, peers_of, EndsMatch}
-use Rattle.board_runner.specs.OwnRun.{MovedAsTold, station_in, IsOnItsWay, HasNotBegun, CountsOneLine, RunsNextLine, RunsScript}
+use Rattle.board_runner.specs.OwnRun.{MovedAsTold, station_in, IsOnItsWay, HasNotBegun, CountsOneLine, RanWhole, RunsNextLine, RunsScript}
 use Rattle.board_runner.specs.Runs.{MayCount}
 use Rattle.board_runner.specs.Stations.{IsStation}
 use Rattle.board_runner.proofs.NumberedMoves.{numbered-opened}
@@ -400,22 +400,25 @@ module _ (s : Scenario) (i : ℕ) (line : CallLine) (first now : Station) (is : 
     domain_number = counts.domain_number ∙ h.domain_number;
   }
 
--- all lines
-pub ran_whole : (s : Scenario) (i : ℕ) (first now : Station) → length s.calls ≤ i → RanFront s i first now → RunsScript s first now
-ran_whole s i first now le h d opened =
-    let w = h.ran d opened in
+-- ---- all lines
+
+-- a domain on its way that called as many lines as its script has ran the script whole
+pub way_whole : (s : Scenario) (d : DomainLine) (ends : List RunEnds) (now : Station) → IsOnItsWay s d ends 0 now → now.number ≡ length (script s d.domain) → RanWhole s d ends now
+way_whole s d ends now w all =
     let lines = script s d.domain in
     let left : w.run ≡ left_by s d w.entries = leads_to lines (start s d) w.run w.entries w.leads in
-    let own : now.domain_number ≡ d.domain = h.domain_number ∙ opened.domain_number in
     record {
       entries = w.entries;
       runs = record {
         steps = subst (λ (r : RunState). Leads lines (start s d) w.entries r) left w.leads;
         settled = subst (λ (r : RunState). HasNoPuts r.put_since_turn) left w.settled;
       };
-      whole =
-          ap (λ (r : RunState). r.lines_called) (sym left) ∙ sym w.stands.number ∙ h.number
-          ∙ ap₂ (λ (ls : List CallLine) (n : ℕ). length (lines_of ls n)) (take_all s.calls i le) own;
+      whole = ap (λ (r : RunState). r.lines_called) (sym left) ∙ sym w.stands.number ∙ all;
       stands = subst (λ (r : RunState). IsStation s (station_in d r w.entries) now) left w.stands;
       moves = w.moves;
     }
+
+pub ran_whole : (s : Scenario) (i : ℕ) (first now : Station) → length s.calls ≤ i → RanFront s i first now → RunsScript s first now
+ran_whole s i first now le h d opened =
+    let own : now.domain_number ≡ d.domain = h.domain_number ∙ opened.domain_number in
+    way_whole s d first.domain.ends now (h.ran d opened) (h.number ∙ ap₂ (λ (ls : List CallLine) (n : ℕ). length (lines_of ls n)) (take_all s.calls i le) own)

@@ -235,8 +235,8 @@ all_along s i sts le h = subst (λ (ls : List CallLine). IsRun s (lines_run s (o
 pub number-fits : (s : Scenario) → IsLinkedBoard s → (i : ℕ) (line : CallLine) → slice_get s.calls i ≡ Some line → line.domain < 8
 number-fits s board i line is = omega (arith, told-fits s board line.domain (all-at (λ c. IsTold s c.domain) s.calls i line board.lines_told is))
 
--- a lawful line asks for 9,000 bytes at most, and its values fit their bits
-asks : (c : Call) → HasFitArguments c → HasFitNumbers 9000 c
+-- a line whose arguments fit asks for 9,000 bytes at most, and its values fit their bits
+pub asks : (c : Call) → HasFitArguments c → HasFitNumbers 9000 c
 asks (Create port) h = tt
 asks (Delete port) h = tt
 asks (Lookup name) h = tt

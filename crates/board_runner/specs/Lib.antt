@@ -23,4 +23,10 @@ pub mod ThreadRun
 pub mod RingLines
 pub mod LendingLabels
 pub mod Waits
+pub mod AnswerForms
 pub mod Answered
+pub mod ActorLogs
+pub mod Scripts
+pub mod ActorRun
+pub mod ActorJobs
+pub mod Acting

@@ -51,7 +51,9 @@ pub fn write_report<K: Sink>(
     out.finish()
 }
 
-fn put_report<K: Sink>(
+/// Puts the report of what a run of a scenario left, as [`write_report`] writes it, for a caller that puts more behind it. Where `threads`, it is one
+/// of a run on threads.
+pub fn put_report<K: Sink>(
     out: &mut Writer<'_, K>,
     scenario: &Scenario,
     outcome: &Outcome,

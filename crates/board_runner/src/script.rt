@@ -53,7 +53,7 @@ pub(crate) fn run_script<'a, G: Gate, P: Pace + Drop>(
 /// # Errors
 ///
 /// `NoMemory` where the journal or the labels cannot grow.
-fn run_own_line<P: Pace>(
+pub(crate) fn run_own_line<P: Pace>(
     station: &mut Station<'_>,
     line: &CallLine,
     pace: &mut Option<P>,
@@ -65,7 +65,7 @@ fn run_own_line<P: Pace>(
     requires room { length room.old ≡ asked_limit }
     ensures run { OnOk result (RunsNextLine line.now station.old station.new) }
     ensures counts { OnOk result (CountsOneLine station.old station.new) }
-    ensures answered { OnOk result (IsAnswered station.old station.new) }
+    ensures answered { OnOk result (IsAnswered line.now.call station.old station.new) }
 {
     if let Some(limit) = wait_limit(&line.call) {
         wait_own(station, line, limit, pace, room)?;

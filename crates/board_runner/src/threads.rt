@@ -5,6 +5,7 @@ ghost use Rattle.std.specs.List.{AllByRecursion};
 ghost use Rattle.board_model.specs.Language.{IsLawfulBoard};
 ghost use Rattle.board_runner.specs.Apart.{RanApart, RanOver};
 ghost use Rattle.board_runner.specs.Jobs.{AreJobs, MayRun, RunsJob, RunScripts};
+ghost use Rattle.board_runner.specs.Outcome.{lines_in};
 ghost use Rattle.board_runner.specs.OwnRun.{HasNotBegun};
 ghost use Rattle.board_runner.specs.ThreadRun.{IsThreadRun};
 ghost use Rattle.board_runner.specs.Wired.{IsWired};
@@ -92,7 +93,7 @@ pub fn run_bells<T: Threads + Wait + Sync, G: Gate + Sync>(
 }
 
 /// Finishes the rings of a board whose domains ran over them, and makes the outcome of what is left.
-fn outcome_left(
+pub(crate) fn outcome_left(
     alloc: Global,
     scenario: &Scenario,
     rings: Vec<LinkRings>,
@@ -100,7 +101,8 @@ fn outcome_left(
 ) -> Result<Outcome, NoMemory>
     requires lawful { IsLawfulBoard scenario.now }
     requires ran { RanOver scenario.now rings.items left }
-    ensures { IfOk result (IsThreadRun scenario.now) }
+    ensures run { IfOk result (IsThreadRun scenario.now) }
+    ensures journals { IfOk result (λ o. lines_in o.journals ≡ lines_in left.journals) }
 {
     let closed = finish_rings(alloc, scenario.links.as_slice(), rings, left.links)?;
     let tallies = left.tallies.as_slice();

@@ -13,7 +13,7 @@ pub returns-in-Some-clause-counts : goal.returns-in-Some-clause-counts
 returns-in-Some-clause-counts g c = counts-wait c.args.line.now c.in-Some.limit c.args.station.now c.wait_own.new.station (sym c.in-Some.ensures) c.requires.drops c.in_ok-wait_own.ensures
 
 pub returns-in-Some-clause-answered : goal.returns-in-Some-clause-answered
-returns-in-Some-clause-answered g c = wait-answers c.args.line.now c.in-Some.limit c.args.station.now c.wait_own.new.station c.in_ok-wait_own.ensures
+returns-in-Some-clause-answered g c = wait-answers c.args.line.now c.in-Some.limit c.args.station.now c.wait_own.new.station (sym c.in-Some.ensures) c.in_ok-wait_own.ensures
 
 pub loop-call-init : goal.loop-call-init
 loop-call-init g c = record { tried = λ s d ends lawful own comes h. h; counts = record { number = refl; dropped = refl; domain_number = refl }; answers = refl; room = c.requires.room }

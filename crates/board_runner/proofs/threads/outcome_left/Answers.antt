@@ -54,6 +54,6 @@ pub totals_of-messages-requires-clause-tallies : goal.totals_of-messages-require
 totals_of-messages-requires-clause-tallies c =
     some-tally c.args.scenario.now (lawful_is_linked c.args.scenario.now c.requires.lawful) _ c.as_slice.ensures c.args.rings.items c.args.left c.requires.ran c.in_ok-closed.closed c.in_ok-closed.ensures _ c.as_slice-tallies.ensures
 
-pub returns : goal.returns
-returns c =
+pub returns-clause-run : goal.returns-clause-run
+returns-clause-run c =
     ran-on-threads c.args.scenario.now (lawful_is_linked c.args.scenario.now c.requires.lawful) _ c.as_slice.ensures c.args.rings.items c.args.left c.requires.ran c.in_ok-closed.closed c.in_ok-closed.ensures c.in_ok-places.places c.totals_of-messages.result _ c.as_slice-tallies.ensures c.in_ok-places.ensures c.totals_of-messages.ensures
