@@ -10,7 +10,9 @@ use Rattle.board_model.specs.declared.scenario.Call.TheVariants.{OpenSend, PktRe
 use Rattle.board_model.specs.declared.scenario.CallLine.{CallLine}
 use Rattle.board_model.specs.Journal.{PlainAnswer, agrees, gives, refuses}
 use Rattle.board_model.specs.Logs.{LoggedCall}
-use Rattle.hop_relay.specs.Roles.{Role, middle, sends, receives, send_line, due_after, due, FitsFrom, FitsRole}
+use Rattle.hop_relay.specs.declared.role.Role.{Role}
+use Rattle.hop_relay.specs.declared.role.Role.TheVariants.{Middle}
+use Rattle.hop_relay.specs.Roles.{sends, receives, send_line, due_after, due, FitsFrom, FitsRole}
 use Rattle.hop_relay.specs.Hop.{received_by, sent_by, received, sent, held, SendsOn, IsHop}
 use Rattle.hop_relay.proofs.RoleLogs.{received_more, sent_more, IsPlain, PlainOrNone, along_role}
 
@@ -52,7 +54,7 @@ stays call answer rest no_in no_out = record { lacks = ap (λ xs. rest ++ xs) no
 -- after the opening
 module _ (d most : ℕ) where
   abbrev role : Role
-  role = middle d most
+  role = Middle d most
 
   record Behind (n k : ℕ) (call : Call) (answer : PlainAnswer) (rest : List (List ℕ)) : Type 0 where
     more : List (List ℕ)
@@ -135,15 +137,15 @@ opens log l o own plain a =
     record { rest = a.rest; lacks = lacks_more log l a.rest a.rest a.lacks (plain_stays l.line.call l.answer a.rest own); next = plain_next o a.rest plain none }
 
 module _ (d most : ℕ) where
-  follows : (log : List LoggedCall) (l : LoggedCall) → Lacks log (Some l.line) → Lacks (log ++ l ∷ []) (due_after (middle d most) (sends (log ++ l ∷ [])) (receives (log ++ l ∷ [])) l.line.call l.answer)
+  follows : (log : List LoggedCall) (l : LoggedCall) → Lacks log (Some l.line) → Lacks (log ++ l ∷ []) (due_after (Middle d most) (sends (log ++ l ∷ [])) (receives (log ++ l ∷ [])) l.line.call l.answer)
   follows log l a =
       let to = behind d most (sends (log ++ l ∷ [])) (receives (log ++ l ∷ [])) l.line.call l.answer a.rest a.next in
       record { rest = to.more; lacks = lacks_more log l a.rest to.more a.lacks to.moves; next = to.next }
 
-  along : (log : List LoggedCall) → FitsRole (middle d most) log → Lacks log (due (middle d most) log)
-  along log fits = along_role (middle d most) Lacks (tt, (tt, (tt, (tt, (tt, (tt, (tt, (tt, tt)))))))) opens follows (record { rest = []; lacks = refl; next = refl }) log fits
+  along : (log : List LoggedCall) → FitsRole (Middle d most) log → Lacks log (due (Middle d most) log)
+  along log fits = along_role (Middle d most) Lacks (tt, (tt, (tt, (tt, (tt, (tt, (tt, (tt, tt)))))))) opens follows (record { rest = []; lacks = refl; next = refl }) log fits
 
-  front_fits : (first front back : List LoggedCall) → FitsFrom (middle d most) first (front ++ back) → FitsFrom (middle d most) first front
+  front_fits : (first front back : List LoggedCall) → FitsFrom (Middle d most) first (front ++ back) → FitsFrom (Middle d most) first front
   front_fits first [] back fits = tt
   front_fits first (l ∷ ls) back fits = (fits.0, front_fits (first ++ l ∷ []) ls back fits.1)
 
@@ -152,7 +154,7 @@ sends_on log rest lacks few =
     let is : held log ≡ rest = ap (drop (length (sent log))) lacks ∙ drop_at (sent log) rest (length (sent log)) refl in
     record { kept = lacks ∙ ap (λ xs. sent log ++ xs) (sym is); few = subst (λ xs. length xs ≤ 1) (sym is) few }
 
-pub is_hop : (d most : ℕ) (log : List LoggedCall) → FitsRole (middle d most) log → IsHop log
+pub is_hop : (d most : ℕ) (log : List LoggedCall) → FitsRole (Middle d most) log → IsHop log
 is_hop d most log fits front back is =
-    let a = along d most front (front_fits d most [] front back (subst (FitsRole (middle d most)) is fits)) in
-    sends_on front a.rest a.lacks (next_few (due (middle d most) front) a.rest a.next)
+    let a = along d most front (front_fits d most [] front back (subst (FitsRole (Middle d most)) is fits)) in
+    sends_on front a.rest a.lacks (next_few (due (Middle d most) front) a.rest a.next)

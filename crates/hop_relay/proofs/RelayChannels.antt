@@ -30,8 +30,10 @@ use Rattle.hop_relay.specs.Roles.{FitsRole}
 use Rattle.hop_relay.specs.Hop.{sent, received}
 use Rattle.hop_relay.specs.RelayBoard.{numbers_below, relay_domain, role_of}
 use Rattle.hop_relay.specs.RelayLaw.{accepted_at, taken_at, left_at, IsEmptyAt, log_in, log_at, IsRelayRun, HopFitsLogs}
+use Rattle.hop_relay.proofs.NumbersBelow.{less_other}
 use Rattle.hop_relay.proofs.RelayPackets.{OfChannel, contents_in, Takes}
-use Rattle.hop_relay.proofs.RelayJournals.{role_is, unnamed_accepts, names_next, accepts_sent, takes_received}
+use Rattle.hop_relay.proofs.RoleNumbers.{role_is}
+use Rattle.hop_relay.proofs.RelayJournals.{unnamed_accepts, names_next, accepts_sent, takes_received}
 
 -- ---- lists
 
@@ -46,9 +48,6 @@ has_front P (x ∷ xs) ys (inr h) = inr (has_front P xs ys h)
 has_end : (P : DomainLine → Type 0) (xs : List DomainLine) (y : DomainLine) → P y → Has P (xs ++ y ∷ [])
 has_end P [] y h = inl h
 has_end P (x ∷ xs) y h = inr (has_end P xs y h)
-
-less_other : (d n : ℕ) → d < suc n → (n ≡ d → ⊥) → d < n
-less_other d n less other = omega arith
 
 -- each number below is that of a domain of the row
 row_has : (n d : ℕ) → d < n → Has (λ (x : DomainLine). (x.domain == d) ≡ true) (map relay_domain (numbers_below n))

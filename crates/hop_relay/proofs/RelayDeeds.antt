@@ -16,7 +16,8 @@ use Rattle.board_model.specs.Board.{DomainJournal}
 use Rattle.board_model.specs.JournalDeeds.{deeds_of, opened}
 use Rattle.board_model.specs.Logs.{log_of}
 use Rattle.board_model.proofs.LogDeeds.{Collects, log-collects}
-use Rattle.hop_relay.specs.Roles.{Role, FitsRole}
+use Rattle.hop_relay.specs.declared.role.Role.{Role}
+use Rattle.hop_relay.specs.Roles.{FitsRole}
 use Rattle.hop_relay.proofs.RoleLines.{is_in_relay, mark, unless_refusal, strays_by, none_strays, connected_by, Connects, IsRoleOf, connects_next}
 
 -- ---- calls that are not of a relay

@@ -1,5 +1,5 @@
 -- The journals of a relay's run, each by its own log: what a domain's channels accept and name, and what it takes.
-use Rattle.std.proofs.Common.{◌≡◌, ℕ, ◌+◌, Bool, true, false, cond, List, [], ◌∷◌, refl, sym, subst, ◌∙◌, arith, inl, inr}
+use Rattle.std.proofs.Common.{◌≡◌, ℕ, ◌+◌, false, List, [], ◌∷◌, sym, subst, ◌∙◌, arith, inl, inr}
 use Rattle.std.specs.Prelude.{◌==◌, Contains}
 use Rattle.std.specs.List.{AllByRecursion}
 use Rattle.std.proofs.lemmas.Bool.{cases_Bool, eqb-true}
@@ -19,26 +19,14 @@ use Rattle.board_model.proofs.DeedRuns.{puts_by}
 use Rattle.board_model.proofs.HearingLaw.{opening_sound}
 use Rattle.board_model.proofs.OneLane.{Aim, no_aim, aimed_at}
 use Rattle.board_model.proofs.OrderSerials.{Serials, all_succeed}
-use Rattle.hop_relay.specs.Roles.{Role, first, middle, last, FitsRole}
+use Rattle.hop_relay.specs.declared.role.Role.{Role}
+use Rattle.hop_relay.specs.Roles.{FitsRole}
 use Rattle.hop_relay.specs.Hop.{sent, received}
-use Rattle.hop_relay.specs.RelayBoard.{role_of}
 use Rattle.hop_relay.proofs.LogPackets.{has_packets}
 use Rattle.hop_relay.proofs.RoleLines.{Connects, IsRoleOf}
 use Rattle.hop_relay.proofs.RelayDeeds.{connects_in, no_deed_strays, deed_connects}
 use Rattle.hop_relay.proofs.RelayStates.{none_named, all_named}
 use Rattle.hop_relay.proofs.RelayPackets.{Takes, all_accepted, all_taken}
-
--- each domain has a role of its number
-pub role_is : (packets : List (List ℕ)) (hops most d : ℕ) → IsRoleOf d (role_of packets hops most d)
-role_is packets hops most d = by_first (d == 0) refl
-  where
-    by_last : (b : Bool) → IsRoleOf d (cond b (last d most) (middle d most))
-    by_last true = refl
-    by_last false = refl
-
-    by_first : (b : Bool) → (d == 0) ≡ b → IsRoleOf d (cond b (first packets) (cond (d == hops) (last d most) (middle d most)))
-    by_first true is = eqb-true d 0 is
-    by_first false is = by_last (d == hops)
 
 -- where a channel was not numbered, nothing is accepted on it
 pub unnamed_accepts : (s : Scenario) (j : DomainJournal) → JournalRun s j → (m : ℕ) → along (named_by m) (opened s j) (deeds_of s j) ≡ [] → along (accepted_by m) (opened s j) (deeds_of s j) ≡ []

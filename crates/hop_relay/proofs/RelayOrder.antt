@@ -1,17 +1,15 @@
 -- The law of relays, by induction over the channels: what a domain between took of one is what it put to the next, and what it holds.
-use Rattle.std.proofs.Common.{◌≡◌, ℕ, zero, suc, ◌+◌, ◌-◌, ◌≤◌, ◌<◌, cond, List, [], ◌++◌, ap, sym, subst, ◌∙◌, arith, append_assoc, append-nil}
-use Rattle.std.specs.Prelude.{◌==◌}
-use Rattle.std.proofs.lemmas.Bool.{ne_eqb}
+use Rattle.std.proofs.Common.{◌≡◌, ℕ, zero, suc, ◌+◌, ◌-◌, ◌≤◌, ◌<◌, List, [], ◌++◌, ap, sym, subst, ◌∙◌, arith, append_assoc, append-nil}
 use Rattle.board_model.specs.declared.scenario.Scenario.{Scenario}
 use Rattle.board_model.specs.Board.{DomainJournal}
 use Rattle.board_model.proofs.ChannelLaw.{every-channel-is-kept}
-use Rattle.hop_relay.specs.Roles.{first, middle, last, FitsRole}
+use Rattle.hop_relay.specs.Roles.{FitsRole}
 use Rattle.hop_relay.specs.Hop.{sent, received, held, SendsOn}
-use Rattle.hop_relay.specs.RelayBoard.{role_of}
 use Rattle.hop_relay.specs.RelayLaw.{accepted_at, taken_at, left_at, log_at, on_the_way, IsRelayRun, HopFitsLogs, KeepsOrder}
 use Rattle.hop_relay.proofs.HopLemmas.{is_hop}
 use Rattle.hop_relay.proofs.SourceLemmas.{sends_first}
 use Rattle.hop_relay.proofs.RelayChannels.{fits_at, hop_fits}
+use Rattle.hop_relay.proofs.RoleNumbers.{is_between}
 
 module _ (packets : List (List ℕ)) (hops size most : ℕ) (s : Scenario) (js : List DomainJournal) (run : IsRelayRun packets hops size most s js) where
   hop : (d : ℕ) → d < hops → HopFitsLogs s js d
@@ -20,15 +18,9 @@ module _ (packets : List (List ℕ)) (hops size most : ℕ) (s : Scenario) (js :
   channel : (d : ℕ) → accepted_at s js d ≡ taken_at s js d ++ left_at s js d
   channel d = (every-channel-is-kept s js run.linked run.is_run d 1).kept
 
-  -- a domain that is neither the first nor the last is one between
-  is_between : (d : ℕ) → 0 < d → d < hops → role_of packets hops most d ≡ middle d most
-  is_between d after before =
-      ap (λ b. cond b (first packets) (cond (d == hops) (last d most) (middle d most))) (ne_eqb d 0 (λ e. absurd (omega arith)))
-      ∙ ap (λ b. cond b (last d most) (middle d most)) (ne_eqb d hops (λ e. absurd (omega arith)))
-
   sends_on : (d : ℕ) → 0 < d → d < hops → SendsOn (log_at s js d)
   sends_on d after before =
-      is_hop d most (log_at s js d) (subst (λ role. FitsRole role (log_at s js d)) (is_between d after before) (fits_at packets hops size most s js run d (omega arith))) (log_at s js d) [] (sym (append-nil (log_at s js d)))
+      is_hop d most (log_at s js d) (subst (λ role. FitsRole role (log_at s js d)) (is_between packets hops most d after before) (fits_at packets hops size most s js run d (omega arith))) (log_at s js d) [] (sym (append-nil (log_at s js d)))
 
   one_more : (d : ℕ) → suc d < hops → taken_at s js d ≡ (taken_at s js (suc d) ++ left_at s js (suc d)) ++ held (log_at s js (suc d))
   one_more d less =

@@ -11,7 +11,9 @@ use Rattle.board_model.specs.declared.scenario.CallLine.{CallLine}
 use Rattle.board_model.specs.Journal.{PlainAnswer, agrees, connects, gives, refuses}
 use Rattle.board_model.specs.Logs.{LoggedCall}
 use Rattle.board_model.proofs.MessageAlls.{all-append, all-parts}
-use Rattle.hop_relay.specs.Roles.{Role, first, middle, last, opening, sends, receives, send_line, release_line, next_packet, due_after, due_behind, due_by, last_call, FitsFrom, FitsRole}
+use Rattle.hop_relay.specs.declared.role.Role.{Role}
+use Rattle.hop_relay.specs.declared.role.Role.TheVariants.{First, Middle, Last}
+use Rattle.hop_relay.specs.Roles.{opening, sends, receives, send_line, release_line, next_packet, due_after, due_behind, due_by, last_call, FitsFrom, FitsRole}
 use Rattle.hop_relay.proofs.RoleLogs.{in_opening, one_longer}
 
 -- ---- lines after the opening
@@ -36,16 +38,16 @@ unless_many : (b : Bool) (line : CallLine) → IsBehind line.call → AnyBehind 
 unless_many true line is = tt
 unless_many false line is = is
 
-first_behind : (packets : List (List ℕ)) (n k : ℕ) (call : Call) (a : PlainAnswer) → AnyBehind (due_after (first packets) n k call a)
+first_behind : (packets : List (List ℕ)) (n k : ℕ) (call : Call) (a : PlainAnswer) → AnyBehind (due_after (First packets) n k call a)
 first_behind packets n k (OpenSend port kind) agrees = next_behind (slice_get packets n)
 first_behind packets n k (PktSend port bytes) agrees = next_behind (slice_get packets n)
 first_behind packets n k call a = tt
 
-closed_behind : (d most n k port : ℕ) (w : Refusal) → AnyBehind (due_after (middle d most) n k (PktRecv port) (refuses w))
+closed_behind : (d most n k port : ℕ) (w : Refusal) → AnyBehind (due_after (Middle d most) n k (PktRecv port) (refuses w))
 closed_behind d most n k port ChanClosed = tt
 closed_behind d most n k port w = tt
 
-middle_behind : (d most n k : ℕ) (call : Call) (a : PlainAnswer) → AnyBehind (due_after (middle d most) n k call a)
+middle_behind : (d most n k : ℕ) (call : Call) (a : PlainAnswer) → AnyBehind (due_after (Middle d most) n k call a)
 middle_behind d most n k (OpenSend port kind) agrees = refl
 middle_behind d most n k (PktRecv port) (gives size bytes) = unless_many (nat_lt most k) (send_line d bytes) refl
 middle_behind d most n k (PktRecv port) (refuses w) = closed_behind d most n k port w
@@ -54,11 +56,11 @@ middle_behind d most n k (Release label) agrees = refl
 middle_behind d most n k (CloseSend port) agrees = tt
 middle_behind d most n k call a = tt
 
-ended_behind : (d most n k port : ℕ) (w : Refusal) → AnyBehind (due_after (last d most) n k (PktRecv port) (refuses w))
+ended_behind : (d most n k port : ℕ) (w : Refusal) → AnyBehind (due_after (Last d most) n k (PktRecv port) (refuses w))
 ended_behind d most n k port ChanClosed = tt
 ended_behind d most n k port w = tt
 
-last_behind : (d most n k : ℕ) (call : Call) (a : PlainAnswer) → AnyBehind (due_after (last d most) n k call a)
+last_behind : (d most n k : ℕ) (call : Call) (a : PlainAnswer) → AnyBehind (due_after (Last d most) n k call a)
 last_behind d most n k (OpenRecv port kind) agrees = refl
 last_behind d most n k (PktRecv port) (gives size bytes) = unless_many (nat_lt most k) (release_line d k) tt
 last_behind d most n k (PktRecv port) (refuses w) = ended_behind d most n k port w
@@ -66,11 +68,11 @@ last_behind d most n k (Release label) agrees = refl
 last_behind d most n k call a = tt
 
 after_behind : (role : Role) (n k : ℕ) (call : Call) (a : PlainAnswer) → AnyBehind (due_after role n k call a)
-after_behind (first packets) = first_behind packets
-after_behind (middle d most) = middle_behind d most
-after_behind (last d most) = last_behind d most
+after_behind (First packets) = first_behind packets
+after_behind (Middle d most) = middle_behind d most
+after_behind (Last d most) = last_behind d most
 
-log_behind : (role : Role) (log : List LoggedCall) (o : Option LoggedCall) → AnyBehind (due_behind role log o)
+pub log_behind : (role : Role) (log : List LoggedCall) (o : Option LoggedCall) → AnyBehind (due_behind role log o)
 log_behind role log None = tt
 log_behind role log (Some l) = after_behind role (sends log) (receives log) l.line.call l.answer
 
@@ -82,12 +84,12 @@ FitsLines [] xs = Unit {0}
 FitsLines (l ∷ ls) [] = IsBehind l.line.call × FitsLines ls []
 FitsLines (l ∷ ls) (x ∷ xs) = (x ≡ l.line) × FitsLines ls xs
 
-drop_at_line : (lines : List CallLine) (n : ℕ) (line : CallLine) → slice_get lines n ≡ Some line → drop n lines ≡ line ∷ drop (suc n) lines
+pub drop_at_line : (lines : List CallLine) (n : ℕ) (line : CallLine) → slice_get lines n ≡ Some line → drop n lines ≡ line ∷ drop (suc n) lines
 drop_at_line [] n line there = absurd cc
 drop_at_line (x ∷ xs) zero line there = let same : x ≡ line = cc in ap (λ l. l ∷ xs) same
 drop_at_line (x ∷ xs) (suc n) line there = drop_at_line xs n line there
 
-drop_past : (lines : List CallLine) (n : ℕ) → slice_get lines n ≡ None → (drop n lines ≡ []) × (drop (suc n) lines ≡ [])
+pub drop_past : (lines : List CallLine) (n : ℕ) → slice_get lines n ≡ None → (drop n lines ≡ []) × (drop (suc n) lines ≡ [])
 drop_past [] zero none = (refl, refl)
 drop_past [] (suc n) none = (refl, refl)
 drop_past (x ∷ xs) zero none = absurd cc
@@ -158,9 +160,9 @@ no_strays (l ∷ ls) (x ∷ xs) all fits =
     ap (λ ys. ys ++ flat_map (λ k. strays_by k.line.call k.answer) ls) (no_mark l.answer (is_in_relay l.line.call) (subst (λ (y : CallLine). is_in_relay y.call ≡ true) fits.0 all.0)) ∙ no_strays ls xs all.1 fits.1
 
 opening_in_relay : (role : Role) → AllByRecursion (λ x. is_in_relay x.call ≡ true) (opening role)
-opening_in_relay (first packets) = (refl, (refl, (refl, (refl, (refl, (refl, tt))))))
-opening_in_relay (middle d most) = (refl, (refl, (refl, (refl, (refl, (refl, (refl, (refl, tt))))))))
-opening_in_relay (last d most) = (refl, (refl, tt))
+opening_in_relay (First packets) = (refl, (refl, (refl, (refl, (refl, (refl, tt))))))
+opening_in_relay (Middle d most) = (refl, (refl, (refl, (refl, (refl, (refl, (refl, (refl, tt))))))))
+opening_in_relay (Last d most) = (refl, (refl, tt))
 
 pub none_strays : (role : Role) (log : List LoggedCall) → FitsRole role log → flat_map (λ l. strays_by l.line.call l.answer) log ≡ []
 none_strays role log fits = no_strays log (opening role) (opening_in_relay role) (fits_lines role log fits)
@@ -218,13 +220,13 @@ module _ (P : ℕ → Type 0) where
 
 -- of a role: one at most, and to the domain after this one
 abbrev pub IsRoleOf : ℕ → Role → Type 0
-IsRoleOf d (first packets) = d ≡ 0
-IsRoleOf d (middle e most) = d ≡ e
-IsRoleOf d (last e most) = d ≡ e
+IsRoleOf d (First packets) = d ≡ 0
+IsRoleOf d (Middle e most) = d ≡ e
+IsRoleOf d (Last e most) = d ≡ e
 
 pub connects_next : (d : ℕ) (role : Role) (log : List LoggedCall) → IsRoleOf d role → FitsRole role log → Connects (λ q. q ≡ d + 1) 1 (connected log)
-connects_next d (first packets) log is fits = all_connects (λ q. q ≡ d + 1) log (opening (first packets)) (omega (arith, is), tt) (fits_lines (first packets) log fits)
-connects_next d (middle e most) log is fits = all_connects (λ q. q ≡ d + 1) log (opening (middle e most)) (omega (arith, is), tt) (fits_lines (middle e most) log fits)
-connects_next d (last e most) log is fits =
-    let c = all_connects (λ q. q ≡ d + 1) log (opening (last e most)) tt (fits_lines (last e most) log fits) in
+connects_next d (First packets) log is fits = all_connects (λ q. q ≡ d + 1) log (opening (First packets)) (omega (arith, is), tt) (fits_lines (First packets) log fits)
+connects_next d (Middle e most) log is fits = all_connects (λ q. q ≡ d + 1) log (opening (Middle e most)) (omega (arith, is), tt) (fits_lines (Middle e most) log fits)
+connects_next d (Last e most) log is fits =
+    let c = all_connects (λ q. q ≡ d + 1) log (opening (Last e most)) tt (fits_lines (Last e most) log fits) in
     record { few = let none = c.few in omega (arith, none); each = c.each }

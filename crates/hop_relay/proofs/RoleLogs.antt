@@ -6,7 +6,8 @@ use Rattle.board_model.specs.declared.scenario.Call.{Call}
 use Rattle.board_model.specs.declared.scenario.Call.TheVariants.{PktRecv, PktSend}
 use Rattle.board_model.specs.declared.scenario.CallLine.{CallLine}
 use Rattle.board_model.specs.Logs.{LoggedCall}
-use Rattle.hop_relay.specs.Roles.{Role, opening, sends, receives, due_after, due_in_opening, due_behind, due_by, due, last_after, last_call, is_refused, FitsFrom, FitsRole}
+use Rattle.hop_relay.specs.declared.role.Role.{Role}
+use Rattle.hop_relay.specs.Roles.{opening, sends, receives, due_after, due_in_opening, due_behind, due_by, due, last_after, last_call, is_refused, FitsFrom, FitsRole}
 use Rattle.hop_relay.specs.Hop.{received_by, sent_by, received, sent}
 
 -- ---- one call more
@@ -17,7 +18,7 @@ received_more log l = flat_map-append (λ (m : LoggedCall). received_by m.line.c
 pub sent_more : (log : List LoggedCall) (l : LoggedCall) → sent (log ++ l ∷ []) ≡ sent log ++ sent_by l.line.call l.answer
 sent_more log l = flat_map-append (λ (m : LoggedCall). sent_by m.line.call m.answer) log (l ∷ []) ∙ ap (λ xs. sent log ++ xs) (append-nil (sent_by l.line.call l.answer))
 
-last_more : (o : Option LoggedCall) (log : List LoggedCall) (l : LoggedCall) → last_after o (log ++ l ∷ []) ≡ Some l
+pub last_more : (o : Option LoggedCall) (log : List LoggedCall) (l : LoggedCall) → last_after o (log ++ l ∷ []) ≡ Some l
 last_more o [] l = refl
 last_more o (m ∷ ms) l = last_more (Some m) ms l
 
@@ -42,7 +43,7 @@ all_get (x ∷ xs) zero line all at = let same : x ≡ line = cc in subst (λ (l
 all_get (x ∷ xs) (suc i) line all at = all_get xs i line all.1 at
 
 -- a line comes before another
-before : (lines : List CallLine) (i : ℕ) (line : CallLine) → slice_get lines (suc i) ≡ Some line → (early : CallLine) × (slice_get lines i ≡ Some early)
+pub before : (lines : List CallLine) (i : ℕ) (line : CallLine) → slice_get lines (suc i) ≡ Some line → (early : CallLine) × (slice_get lines i ≡ Some early)
 before [] i line at = absurd cc
 before (x ∷ xs) zero line at = (x, refl)
 before (x ∷ xs) (suc i) line at = before xs i line at

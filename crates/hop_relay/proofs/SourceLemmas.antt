@@ -8,7 +8,8 @@ use Rattle.board_model.specs.Journal.{PlainAnswer, agrees}
 use Rattle.board_model.specs.Lists.{IsPrefix}
 use Rattle.board_model.specs.Logs.{LoggedCall}
 use Rattle.board_model.proofs.ListsCounts.{count-append}
-use Rattle.hop_relay.specs.Roles.{first, is_send, sends, receives, next_packet, due_after, FitsRole}
+use Rattle.hop_relay.specs.declared.role.Role.TheVariants.{First}
+use Rattle.hop_relay.specs.Roles.{is_send, sends, receives, next_packet, due_after, FitsRole}
 use Rattle.hop_relay.specs.Hop.{sent_by, sent}
 use Rattle.hop_relay.proofs.RoleLogs.{sent_more, IsPlain, PlainOrNone, along_role}
 
@@ -74,14 +75,14 @@ module _ (packets : List (List ℕ)) where
   same_front front rest more none kept = kept ∙ ap (λ xs. xs ++ rest) (sym (ap (λ ys. front ++ ys) none ∙ append-nil front))
 
   -- after the opening
-  sent_out : (port : ℕ) (bytes : List ℕ) (n k : ℕ) (front rest : List (List ℕ)) → packets ≡ front ++ rest → IsNext port bytes n front rest → Out (n + 1) (due_after (first packets) (n + 1) k (PktSend port bytes) agrees) (front ++ cond (port == 1) (bytes ∷ []) [])
+  sent_out : (port : ℕ) (bytes : List ℕ) (n k : ℕ) (front rest : List (List ℕ)) → packets ≡ front ++ rest → IsNext port bytes n front rest → Out (n + 1) (due_after (First packets) (n + 1) k (PktSend port bytes) agrees) (front ++ cond (port == 1) (bytes ∷ []) [])
   sent_out port bytes n k front rest kept next =
       let now : packets ≡ (front ++ bytes ∷ []) ++ next.more = kept ∙ ap (λ ps. front ++ ps) next.begins ∙ sym (append_assoc front (bytes ∷ []) next.more) in
       let called : n + 1 ≡ length (front ++ bytes ∷ []) = omega (arith, length-append front (bytes ∷ []), next.called) in
-      subst (λ b. Out (n + 1) (due_after (first packets) (n + 1) k (PktSend port bytes) agrees) (front ++ cond b (bytes ∷ []) [])) (sym next.at)
+      subst (λ b. Out (n + 1) (due_after (First packets) (n + 1) k (PktSend port bytes) agrees) (front ++ cond b (bytes ∷ []) [])) (sym next.at)
       (record { rest = next.more; kept = now; due_is = next_is (n + 1) (front ++ bytes ∷ []) next.more now called })
 
-  behind : (n k : ℕ) (call : Call) (a : PlainAnswer) (front rest : List (List ℕ)) → packets ≡ front ++ rest → NextCall call n front rest → Out (n + cond (is_send call) 1 0) (due_after (first packets) (n + cond (is_send call) 1 0) k call a) (front ++ sent_by call a)
+  behind : (n k : ℕ) (call : Call) (a : PlainAnswer) (front rest : List (List ℕ)) → packets ≡ front ++ rest → NextCall call n front rest → Out (n + cond (is_send call) 1 0) (due_after (First packets) (n + cond (is_send call) 1 0) k call a) (front ++ sent_by call a)
   behind n k (PktSend port bytes) agrees front rest kept next = sent_out port bytes n k front rest kept next
   behind n k (PktSend port bytes) a front rest kept next = record { rest = rest; kept = same_front front rest [] refl kept; due_is = tt }
   behind n k (OpenSend port kind) agrees front rest kept next =
@@ -104,14 +105,14 @@ module _ (packets : List (List ℕ)) where
       same_out (sends log) (sends (log ++ l ∷ [])) o (sent log) (sent (log ++ l ∷ [])) count list
       (record { rest = a.rest; kept = a.kept; due_is = plain_next o (sends log) (sent log) a.rest plain (plain_called l.line.call (sends log) (sent log) a.rest own a.due_is) })
 
-  follows : (log : List LoggedCall) (l : LoggedCall) → Sends log (Some l.line) → Sends (log ++ l ∷ []) (due_after (first packets) (sends (log ++ l ∷ [])) (receives (log ++ l ∷ [])) l.line.call l.answer)
+  follows : (log : List LoggedCall) (l : LoggedCall) → Sends log (Some l.line) → Sends (log ++ l ∷ []) (due_after (First packets) (sends (log ++ l ∷ [])) (receives (log ++ l ∷ [])) l.line.call l.answer)
   follows log l a =
       let n : ℕ = sends log + cond (is_send l.line.call) 1 0 in
       let k : ℕ = receives (log ++ l ∷ []) in
-      subst (λ m. Out m (due_after (first packets) m k l.line.call l.answer) (sent (log ++ l ∷ []))) (sym (more_sends log l))
-      (subst (Out n (due_after (first packets) n k l.line.call l.answer)) (sym (sent_more log l)) (behind (sends log) k l.line.call l.answer (sent log) a.rest a.kept a.due_is))
+      subst (λ m. Out m (due_after (First packets) m k l.line.call l.answer) (sent (log ++ l ∷ []))) (sym (more_sends log l))
+      (subst (Out n (due_after (First packets) n k l.line.call l.answer)) (sym (sent_more log l)) (behind (sends log) k l.line.call l.answer (sent log) a.rest a.kept a.due_is))
 
-  pub sends_first : (log : List LoggedCall) → FitsRole (first packets) log → IsPrefix (sent log) packets
+  pub sends_first : (log : List LoggedCall) → FitsRole (First packets) log → IsPrefix (sent log) packets
   sends_first log fits =
-      let a = along_role (first packets) Sends (tt, (tt, (tt, (tt, (tt, (tt, tt)))))) opens follows (record { rest = packets; kept = refl; due_is = refl }) log fits in
+      let a = along_role (First packets) Sends (tt, (tt, (tt, (tt, (tt, (tt, tt)))))) opens follows (record { rest = packets; kept = refl; due_is = refl }) log fits in
       (a.rest, a.kept)

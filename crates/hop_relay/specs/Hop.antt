@@ -6,7 +6,8 @@ use Rattle.board_model.specs.declared.scenario.Call.{Call}
 use Rattle.board_model.specs.declared.scenario.Call.TheVariants.{PktRecv, PktSend}
 use Rattle.board_model.specs.Journal.{PlainAnswer, agrees, gives}
 use Rattle.board_model.specs.Logs.{LoggedCall}
-use Rattle.hop_relay.specs.Roles.{middle, FitsRole}
+use Rattle.hop_relay.specs.declared.role.Role.TheVariants.{Middle}
+use Rattle.hop_relay.specs.Roles.{FitsRole}
 
 -- the packets that a log received at port 2: those of the receives that were answered `ok`
 abbrev pub received_by : Call → PlainAnswer → List (List ℕ)
@@ -39,4 +40,4 @@ IsHop log = (front back : List LoggedCall) → log ≡ front ++ back → SendsOn
 
 -- the log of a domain between is a hop
 abbrev pub MiddleLogsAreHops : Type 0
-MiddleLogsAreHops = (d most : ℕ) (log : List LoggedCall) → FitsRole (middle d most) log → IsHop log
+MiddleLogsAreHops = (d most : ℕ) (log : List LoggedCall) → FitsRole (Middle d most) log → IsHop log

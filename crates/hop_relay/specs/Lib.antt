@@ -3,3 +3,8 @@ pub mod Hop
 pub mod LogDeeds
 pub mod RelayBoard
 pub mod RelayLaw
+pub mod Steps
+pub mod NextLines
+pub mod Places
+pub mod RelayActors
+pub mod RelayRun

@@ -7,7 +7,9 @@ use Rattle.board_model.specs.declared.scenario.LinkLine.{LinkLine}
 use Rattle.board_model.specs.declared.scenario.Scenario.{Scenario}
 use Rattle.board_model.specs.Board.{DomainJournal}
 use Rattle.board_model.specs.Logs.{log_of}
-use Rattle.hop_relay.specs.Roles.{Role, first, middle, last, FitsRole}
+use Rattle.hop_relay.specs.declared.role.Role.{Role}
+use Rattle.hop_relay.specs.declared.role.Role.TheVariants.{First, Middle, Last}
+use Rattle.hop_relay.specs.Roles.{FitsRole}
 
 -- 0, 1 and so on, so many
 abbrev pub numbers_below : ℕ → List ℕ
@@ -28,7 +30,7 @@ pub record IsRelayBoard (hops size : ℕ) (s : Scenario) : Type 0 where
 
 -- the role of a domain: the first has the packets, and each other receives this many at most
 abbrev pub role_of : List (List ℕ) → (hops most : ℕ) → ℕ → Role
-role_of packets hops most d = if d == 0 then first packets else if d == hops then last d most else middle d most
+role_of packets hops most d = if d == 0 then First packets else if d == hops then Last d most else Middle d most
 
 -- the log of each domain fits the role of its number. It need not have ended
 abbrev pub LogsFitRoles : Scenario → List DomainJournal → List (List ℕ) → (hops most : ℕ) → Type 0

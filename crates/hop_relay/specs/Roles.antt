@@ -12,12 +12,8 @@ use Rattle.board_model.specs.Journal.{PlainAnswer, agrees, gives, refuses}
 use Rattle.board_model.specs.Forms.{label_of}
 use Rattle.board_model.specs.Logs.{LoggedCall}
 use Rattle.board_model.specs.MadeLines.{once, tried, labelled, labelled_tried, waited, packet_label}
-
--- the first domain, 0, with the packets that it sends; a domain between, or the last, with its number and the most packets that it receives
-pub data Role : Type 0 where
-  first : List (List ℕ) → Role
-  middle : ℕ → ℕ → Role
-  last : ℕ → ℕ → Role
+use Rattle.hop_relay.specs.declared.role.Role.{Role}
+use Rattle.hop_relay.specs.declared.role.Role.TheVariants.{First, Middle, Last}
 
 -- ---- the lines
 
@@ -39,9 +35,9 @@ open_recv_line d = tried d (OpenRecv 2 Packet)
 
 -- the lines of a domain before its first packet
 abbrev pub opening : Role → List CallLine
-opening (first packets) = once 0 (Create 1) ∷ (connecting 0 ++ open_send_line 0 ∷ [])
-opening (middle d most) = once d (Create 1) ∷ once d (Create 2) ∷ (connecting d ++ open_recv_line d ∷ open_send_line d ∷ [])
-opening (last d most) = once d (Create 2) ∷ open_recv_line d ∷ []
+opening (First packets) = once 0 (Create 1) ∷ (connecting 0 ++ open_send_line 0 ∷ [])
+opening (Middle d most) = once d (Create 1) ∷ once d (Create 2) ∷ (connecting d ++ open_recv_line d ∷ open_send_line d ∷ [])
+opening (Last d most) = once d (Create 2) ∷ open_recv_line d ∷ []
 
 abbrev pub send_line : ℕ → List ℕ → CallLine
 send_line d bytes = tried d (PktSend 1 bytes)
@@ -83,18 +79,18 @@ next_packet None = close_send_line 0
 
 -- the line that is due after the opening, where so many packets were sent and so many receives were called, after this call and its answer
 abbrev pub due_after : Role → (sent received : ℕ) → Call → PlainAnswer → Option CallLine
-due_after (first packets) n k (OpenSend port kind) agrees = Some (next_packet (slice_get packets n))
-due_after (first packets) n k (PktSend port bytes) agrees = Some (next_packet (slice_get packets n))
-due_after (middle d most) n k (OpenSend port kind) agrees = Some (receive_line d 1)
-due_after (middle d most) n k (PktRecv port) (gives size bytes) = if nat_lt most k then None else Some (send_line d bytes)
-due_after (middle d most) n k (PktRecv port) (refuses ChanClosed) = Some (close_send_line d)
-due_after (middle d most) n k (PktSend port bytes) agrees = Some (release_line d k)
-due_after (middle d most) n k (Release label) agrees = Some (receive_line d (k + 1))
-due_after (middle d most) n k (CloseSend port) agrees = Some (close_recv_line d)
-due_after (last d most) n k (OpenRecv port kind) agrees = Some (receive_line d 1)
-due_after (last d most) n k (PktRecv port) (gives size bytes) = if nat_lt most k then None else Some (release_line d k)
-due_after (last d most) n k (PktRecv port) (refuses ChanClosed) = Some (close_recv_line d)
-due_after (last d most) n k (Release label) agrees = Some (receive_line d (k + 1))
+due_after (First packets) n k (OpenSend port kind) agrees = Some (next_packet (slice_get packets n))
+due_after (First packets) n k (PktSend port bytes) agrees = Some (next_packet (slice_get packets n))
+due_after (Middle d most) n k (OpenSend port kind) agrees = Some (receive_line d 1)
+due_after (Middle d most) n k (PktRecv port) (gives size bytes) = if nat_lt most k then None else Some (send_line d bytes)
+due_after (Middle d most) n k (PktRecv port) (refuses ChanClosed) = Some (close_send_line d)
+due_after (Middle d most) n k (PktSend port bytes) agrees = Some (release_line d k)
+due_after (Middle d most) n k (Release label) agrees = Some (receive_line d (k + 1))
+due_after (Middle d most) n k (CloseSend port) agrees = Some (close_recv_line d)
+due_after (Last d most) n k (OpenRecv port kind) agrees = Some (receive_line d 1)
+due_after (Last d most) n k (PktRecv port) (gives size bytes) = if nat_lt most k then None else Some (release_line d k)
+due_after (Last d most) n k (PktRecv port) (refuses ChanClosed) = Some (close_recv_line d)
+due_after (Last d most) n k (Release label) agrees = Some (receive_line d (k + 1))
 due_after role n k call answer = None
 
 abbrev pub is_refused : PlainAnswer → Bool

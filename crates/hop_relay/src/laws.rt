@@ -3,6 +3,7 @@
 ghost use Rattle.hop_relay.specs.Hop.{MiddleLogsAreHops};
 ghost use Rattle.hop_relay.specs.LogDeeds.{LogsHavePackets};
 ghost use Rattle.hop_relay.specs.RelayLaw.{HopsFitLogs, UnnumberedAreEmpty, RelaysKeepOrder};
+ghost use Rattle.hop_relay.specs.RelayRun.{OutcomesAreRelayRuns};
 
 /// Shows that a domain between sends the packets that it received, in the same order, and holds one at most, at each place of its log.
 pub fn middle_logs_are_hops()
@@ -29,4 +30,9 @@ pub fn unnumbered_channels_are_empty()
 /// source put the first of the packets. Nothing says that all arrive.
 pub fn relays_keep_order()
     ensures { RelaysKeepOrder }
+{}
+
+/// Shows that what `run_relay` returns tells a run of a relay, of which the other laws hold.
+pub fn relay_outcomes_are_relay_runs()
+    ensures { OutcomesAreRelayRuns }
 {}
