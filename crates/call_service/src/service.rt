@@ -109,11 +109,26 @@ impl Service {
         Ok(request.client)
     }
 
+    /// Returns how many calls were carried out.
+    pub fn len(&self) -> usize
+        ensures { result ≡ length self.now.history }
+    {
+        self.history.len()
+    }
+
     /// Returns the call that was carried out at this place, counted from 0, or `None` past the last.
     pub fn entry(&self, at: usize) -> Option<Carried>
         ensures { result ≡ slice_get self.now.history at }
     {
         self.history.get(at).copied()
+    }
+
+    /// Returns the value of a cell, 0 to 15: the sum of what the calls on it added.
+    pub fn cell(&self, cell: u8) -> u64
+        requires { cell < 16 }
+        ensures { result ≡ value self.now.history cell }
+    {
+        self.cells[usize::from(cell)]
     }
 
     /// Returns the reply to a request, and carries it out where it is its client's next.
@@ -176,17 +191,10 @@ impl Service {
         self.last[usize::from(client)]
     }
 
-    fn cell(&self, cell: u8) -> u64
-        requires { cell < 16 }
-        ensures { result ≡ value self.now.history cell }
-    {
-        self.cells[usize::from(cell)]
-    }
-
     fn is_full(&self) -> bool
         ensures { result ≡ nat_le self.now.room (length self.now.history) }
     {
-        self.history.len() >= self.room as usize
+        self.len() >= self.room as usize
     }
 
     /// Appends a call to the history, and keeps its reply and its cell's value.

@@ -17,7 +17,8 @@ fn each_cell_has_its_own_sum(service: &mut Service) -> bool {
         if !holds(
             service,
             &((3, cell, cell as u32 + 17, 0), Ok((DONE, cell as u64 + 1))),
-        ) {
+        ) || service.cell(cell) != cell as u64 + 1
+        {
             return false;
         }
     }

@@ -29,7 +29,10 @@ fn entry(number: u32, amount: u64, over: bool, value: u64) -> Option<Carried> {
 
 /// Whether a service has these two entries and no third.
 fn has_entries(service: &Service, first: Option<Carried>, second: Option<Carried>) -> bool {
-    service.entry(0) == first && service.entry(1) == second && service.entry(2).is_none()
+    service.entry(0) == first
+        && service.entry(1) == second
+        && service.entry(2).is_none()
+        && service.len() == 2
 }
 
 #[test]
