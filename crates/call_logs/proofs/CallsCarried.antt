@@ -20,7 +20,8 @@ use Rattle.call_logs.specs.LogMessages.{MessageSent, MessageReceived, messages_s
 use Rattle.call_logs.specs.MessageDeeds.{log_at, WasSent}
 use Rattle.call_logs.specs.CallBytes.{bye_bytes}
 use Rattle.call_logs.specs.Roles.{handled_all, requests_received}
-use Rattle.call_logs.specs.CallsBoard.{CallOf, CallBoard, IsCall, IsCallBoard, IsCallsRun, calls_of_client, carried_calls}
+use Rattle.call_logs.specs.declared.numbered.NumberedCall.{NumberedCall}
+use Rattle.call_logs.specs.CallsBoard.{CallBoard, IsCall, IsCallBoard, IsCallsRun, calls_of_client, carried_calls}
 use Rattle.call_logs.specs.CallsLaw.{CarriedInOrder}
 use Rattle.call_logs.proofs.ListsHad.{contained_has}
 use Rattle.call_logs.proofs.SentTo.{was_sent}
@@ -61,22 +62,22 @@ module _ (board : CallBoard) (s : Scenario) (js : List DomainJournal) (is_board 
 
   -- ---- the calls of the board are in their ranges
 
-  abbrev pair_of : CallOf → ℕ × ℕ
+  abbrev pair_of : NumberedCall → ℕ × ℕ
   pair_of k = (k.cell, k.amount)
 
   pub few : (d : ℕ) → length (calls d) ≤ length board.calls
   few d =
       omega (
         arith,
-        length-map (filter (λ (k : CallOf). k.client == d) board.calls) pair_of,
-        length-filter (λ (k : CallOf). k.client == d) board.calls,
-        count_by-le-length (λ (k : CallOf). k.client == d) board.calls,
+        length-map (filter (λ (k : NumberedCall). k.client == d) board.calls) pair_of,
+        length-filter (λ (k : NumberedCall). k.client == d) board.calls,
+        count_by-le-length (λ (k : NumberedCall). k.client == d) board.calls,
       )
 
   small : (d : ℕ) → AllByRecursion (λ k. k.1 < 2 ^ 64) (calls d)
   small d =
-      all-map (λ (k : ℕ × ℕ). k.1 < 2 ^ 64) (λ (k : CallOf). (k.cell, k.amount)) (filter (λ (k : CallOf). k.client == d) board.calls)
-      (all-filter (λ (k : CallOf). k.amount < 2 ^ 64) (λ (k : CallOf). k.client == d) board.calls (all-weaken (IsCall board.clients) (λ k. k.amount < 2 ^ 64) (λ k is. is.amount) board.calls is_board.calls))
+      all-map (λ (k : ℕ × ℕ). k.1 < 2 ^ 64) (λ (k : NumberedCall). (k.cell, k.amount)) (filter (λ (k : NumberedCall). k.client == d) board.calls)
+      (all-filter (λ (k : NumberedCall). k.amount < 2 ^ 64) (λ (k : NumberedCall). k.client == d) board.calls (all-weaken (IsCall board.clients) (λ k. k.amount < 2 ^ 64) (λ k is. is.amount) board.calls is_board.calls))
 
   pub within : {A : Type 0} (xs : List A) (i : ℕ) (x : A) → slice_get xs i ≡ Some x → i < length xs
   within [] i x is = absurd cc

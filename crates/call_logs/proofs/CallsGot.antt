@@ -25,9 +25,11 @@ use Rattle.call_service.specs.Served.{calls_of, served, history, history_from}
 use Rattle.call_service.proofs.Histories.{history-append, numbered_from}
 use Rattle.call_logs.specs.LogMessages.{MessageSent, MessageReceived, messages_sent, messages_received, contents_received}
 use Rattle.call_logs.specs.MessageDeeds.{log_at, WasSent}
-use Rattle.call_logs.specs.CallBytes.{Got, got_in}
+use Rattle.call_logs.specs.CallBytes.{got_in}
+use Rattle.call_logs.specs.declared.got.Got.{Got}
 use Rattle.call_logs.specs.Roles.{handled_all, request_or_none, requests_in, requests_received, got_lines}
-use Rattle.call_logs.specs.CallsBoard.{CallOf, CallBoard, IsCallBoard, IsCallsRun, calls_of_client, role_of, carried_calls}
+use Rattle.call_logs.specs.declared.numbered.NumberedCall.{NumberedCall}
+use Rattle.call_logs.specs.CallsBoard.{CallBoard, IsCallBoard, IsCallsRun, calls_of_client, role_of, carried_calls}
 use Rattle.call_logs.specs.CallsLaw.{IsOfCarried, GotInOrder}
 use Rattle.call_logs.proofs.SentTo.{was_sent}
 use Rattle.call_logs.proofs.ClientSends.{client_asks}
@@ -71,7 +73,7 @@ module _ (board : CallBoard) (s : Scenario) (js : List DomainJournal) (is_board 
       all_carried (λ e. e.client < 8) (λ r. r.client < 8) (λ r over v is. is) [] (requests_received (log_at s js 0)) tt
       (all_requests (λ m. Unit {0}) (λ r. r.client < 8) low_client messages (all-any (λ m. Unit {0}) (λ m. tt) messages))
 
-  fewer : (c : ℕ) → count_by (λ (e : Carried). e.client == c) carried ≤ count_by (λ (k : CallOf). k.client == c) board.calls
+  fewer : (c : ℕ) → count_by (λ (e : Carried). e.client == c) carried ≤ count_by (λ (k : NumberedCall). k.client == c) board.calls
   fewer c =
       let first = (carried_in_order board s js is_board runs c).calls_first in
       omega (
@@ -80,18 +82,18 @@ module _ (board : CallBoard) (s : Scenario) (js : List DomainJournal) (is_board 
         length-append (map pair_of (calls_of c carried)) first.0,
         length-map (calls_of c carried) pair_of,
         length-filter (λ (e : Carried). e.client == c) carried,
-        length-map (filter (λ (k : CallOf). k.client == c) board.calls) call_of,
-        length-filter (λ (k : CallOf). k.client == c) board.calls,
+        length-map (filter (λ (k : NumberedCall). k.client == c) board.calls) call_of,
+        length-filter (λ (k : NumberedCall). k.client == c) board.calls,
       )
     where
       pair_of : Carried → ℕ × ℕ
       pair_of e = (e.cell, e.amount)
 
-      call_of : CallOf → ℕ × ℕ
+      call_of : NumberedCall → ℕ × ℕ
       call_of k = (k.cell, k.amount)
 
   no_more : length carried ≤ length board.calls
-  no_more = no_longer (λ (e : Carried). e.client) (λ (k : CallOf). k.client) carried board.calls fewer 8 low_clients
+  no_more = no_longer (λ (e : Carried). e.client) (λ (k : NumberedCall). k.client) carried board.calls fewer 8 low_clients
 
   -- of any of the first messages, the service held the history
   room_for : (before later : List (List ℕ)) → messages ≡ before ++ later → (handled_all (length board.calls) before).service.history ≡ history (requests_in before)

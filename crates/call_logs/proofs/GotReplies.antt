@@ -6,7 +6,8 @@ use Rattle.std.proofs.lemmas.Bool.{and_parts, eqb-true, ltb-true}
 use Rattle.mc_base.specs.Bytes.{number_at}
 use Rattle.board_model.proofs.MessageAlls.{all-drop}
 use Rattle.call_service.specs.Served.{rising}
-use Rattle.call_logs.specs.CallBytes.{Got, got_in, is_reply, are_replies}
+use Rattle.call_logs.specs.CallBytes.{got_in, is_reply, are_replies}
+use Rattle.call_logs.specs.declared.got.Got.{Got}
 use Rattle.call_logs.specs.Roles.{got_of, and_later, got_from}
 
 pub record FromReply (P : List ℕ → Type 0) (g : Got) : Type 0 where

@@ -2,13 +2,13 @@ mod ListsHad
 mod LogsCollected
 mod TakenBy
 mod SentTo
-mod Followed
+pub mod Followed
 mod ClientSends
 mod ServerSends
-mod Requests
+pub mod Requests
 mod Carried
-mod CallsCarried
+pub mod CallsCarried
 mod Room
 mod Replies
 mod GotReplies
-mod CallsGot
+pub mod CallsGot

@@ -5,6 +5,7 @@ use Rattle.std.specs.List.{list_all}
 use Rattle.byteorder.specs.Endian.{little_bytes}
 use Rattle.mc_base.specs.Bytes.{number_at}
 use Rattle.call_service.specs.Bytes.{is_client}
+use Rattle.call_logs.specs.declared.got.Got.{Got}
 
 -- the request of a client's call of this number: what it adds to which cell
 abbrev pub request_bytes : (client number cell amount : ℕ) → List ℕ
@@ -29,12 +30,6 @@ abbrev pub are_replies : ℕ → List (List ℕ) → Bool
 are_replies number [] = true
 are_replies number (m ∷ ms) = is_reply number m && list_all (bytes_eq m) ms
 
--- what a client got: the number of a call, its status, 0 or 1, and the value
-pub record Got : Type 0 where
-  pub number : ℕ
-  pub status : ℕ
-  pub value : ℕ
-
--- by a reply
+-- what a client got, by a reply
 abbrev pub got_in : List ℕ → Got
 got_in b = record { number = number_at 4 4 b; status = slice_index b 1; value = number_at 8 8 b }

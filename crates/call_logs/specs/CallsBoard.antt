@@ -7,20 +7,15 @@ use Rattle.board_model.specs.LinkedBoard.{IsLinkedBoard}
 use Rattle.board_model.specs.Board.{DomainJournal, IsBoardRun}
 use Rattle.call_service.specs.declared.carried.Carried.{Carried}
 use Rattle.call_service.specs.Served.{history}
+use Rattle.call_logs.specs.declared.numbered.NumberedCall.{NumberedCall}
 use Rattle.call_logs.specs.MessageDeeds.{log_at}
 use Rattle.call_logs.specs.Roles.{Role, client, server, FitsRole, requests_received}
-
--- a client's call: what it adds to which cell
-pub record CallOf : Type 0 where
-  pub client : ℕ
-  pub cell : ℕ
-  pub amount : ℕ
 
 -- what there is to do: for how many clients, how often each request is sent, and the calls of all clients
 pub record CallBoard : Type 0 where
   pub clients : ℕ
   pub repeat : ℕ
-  pub calls : List CallOf
+  pub calls : List NumberedCall
 
 -- the calls of one client, in order
 abbrev pub calls_of_client : CallBoard → ℕ → List (ℕ × ℕ)
@@ -32,7 +27,7 @@ role_of board zero = server board.clients board.repeat (length board.calls)
 role_of board (suc n) = client (suc n) board.repeat (calls_of_client board (suc n))
 
 -- a call of one of the clients, with a cell and an amount in their ranges
-pub record IsCall (clients : ℕ) (k : CallOf) : Type 0 where
+pub record IsCall (clients : ℕ) (k : NumberedCall) : Type 0 where
   pub some_client : 1 ≤ k.client
   pub its_client : k.client ≤ clients
   pub cell : k.cell < 16

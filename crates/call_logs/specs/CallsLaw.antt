@@ -11,7 +11,7 @@ use Rattle.call_service.specs.Bytes.{status_byte}
 use Rattle.call_service.specs.Served.{calls_of, reply_of, rising}
 use Rattle.call_logs.specs.LogMessages.{contents_received}
 use Rattle.call_logs.specs.MessageDeeds.{log_at}
-use Rattle.call_logs.specs.CallBytes.{Got}
+use Rattle.call_logs.specs.declared.got.Got.{Got}
 use Rattle.call_logs.specs.Roles.{got_lines, handled_all}
 use Rattle.call_logs.specs.CallsBoard.{CallBoard, IsCallBoard, IsCallsRun, calls_of_client, role_of, carried_calls}
 

@@ -17,7 +17,8 @@ use Rattle.call_service.specs.Served.{rising}
 use Rattle.call_service.specs.Handled.{Handled, handled, opening as new_service}
 use Rattle.call_logs.specs.LogMessages.{contents_received}
 use Rattle.call_logs.specs.Following.{is_refused, last_call, Follows}
-use Rattle.call_logs.specs.CallBytes.{Got, request_bytes, bye_bytes, bye_in, are_replies, got_in}
+use Rattle.call_logs.specs.CallBytes.{request_bytes, bye_bytes, bye_in, are_replies, got_in}
+use Rattle.call_logs.specs.declared.got.Got.{Got}
 
 -- a client, by its domain, how often it sends each request, and its calls, the cell and the amount of each; and the server, domain 0, by
 -- how many clients it has, how often they send each request, and how many calls they have together

@@ -1,0 +1,15 @@
+pub mod CallLimits
+pub mod ClientBytes
+pub mod ClientSteps
+pub mod ClientStands
+pub mod Tasks
+pub mod ServerLabels
+pub mod ServerLimits
+pub mod ServerSteps
+pub mod ServerStands
+pub mod Desks
+pub mod CallRoles
+pub mod LinesLeft
+pub mod CallActors
+pub mod CallsBoards
+pub mod CallsRun
