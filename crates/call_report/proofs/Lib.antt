@@ -1,0 +1,3 @@
+mod ListLemmas
+mod CellLines
+pub mod GotsText
