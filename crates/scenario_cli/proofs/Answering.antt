@@ -9,27 +9,16 @@ use Rattle.outer_io.specs.declared.source.ReadFault.TheVariants.{Failed, TooLong
 use Rattle.outer_io.specs.Faults.{Rose}
 use Rattle.outer_io.specs.Calls.{CountsOne, ReadsStop}
 use Rattle.scenario_cli.specs.declared.form.Form.{Form}
-use Rattle.scenario_cli.specs.declared.form.Form.TheVariants.{Run, SerialRun, Check, Frame, Ring}
 use Rattle.scenario_cli.specs.Words.{IsOneOf, limit_of}
 use Rattle.scenario_cli.specs.Answers.{Sort, good, bad, other_sort, status_for, status_after, IsOfSort, IsAnswer, IsDue, Stops, Tells, OfInput, Answers, Ends}
 use Rattle.scenario_cli.proofs.Inputs.{if_text}
-use Rattle.scenario_cli.proofs.Telling.{never-six}
+use Rattle.scenario_cli.proofs.Telling.{bad-is, never, never-six}
 
 never-four : (form : Form) (sort : Sort) → status_for form sort ≢ 4
-never-four form good is = omega (arith, is)
-never-four Run bad is = omega (arith, is)
-never-four SerialRun bad is = omega (arith, is)
-never-four Check bad is = omega (arith, is)
-never-four Frame bad is = omega (arith, is)
-never-four Ring bad is = omega (arith, is)
+never-four form sort = never form sort 4 (λ e. omega (arith, e)) (λ e. omega (arith, e)) (λ e. omega (arith, e))
 
 never-seven : (form : Form) (sort : Sort) → status_for form sort ≢ 7
-never-seven form good is = omega (arith, is)
-never-seven Run bad is = omega (arith, is)
-never-seven SerialRun bad is = omega (arith, is)
-never-seven Check bad is = omega (arith, is)
-never-seven Frame bad is = omega (arith, is)
-never-seven Ring bad is = omega (arith, is)
+never-seven form sort = never form sort 7 (λ e. omega (arith, e)) (λ e. omega (arith, e)) (λ e. omega (arith, e))
 
 -- one of the four statuses behind a reading is one of all, and is neither 4 nor 7
 more-statuses : (form : Form) (status : ℕ) → IsOneOf (0 ∷ status_for form bad ∷ 5 ∷ 6 ∷ []) status → IsOneOf (0 ∷ status_for form bad ∷ 4 ∷ 5 ∷ 6 ∷ 7 ∷ []) status
@@ -64,11 +53,12 @@ for-sort form status (inr (inr h)) = absurd h
 
 all-statuses : (form : Form) (status : ℕ) → IsOneOf (0 ∷ status_for form bad ∷ 4 ∷ 5 ∷ 6 ∷ 7 ∷ []) status → IsOneOf (0 ∷ 1 ∷ 2 ∷ 3 ∷ 4 ∷ 5 ∷ 6 ∷ 7 ∷ []) status
 all-statuses form status (inl e) = inl e
-all-statuses Run status (inr (inl e)) = inr (inr (inr (inl e)))
-all-statuses SerialRun status (inr (inl e)) = inr (inr (inr (inl e)))
-all-statuses Check status (inr (inl e)) = inr (inl e)
-all-statuses Frame status (inr (inl e)) = inr (inl e)
-all-statuses Ring status (inr (inl e)) = inr (inl e)
+all-statuses form status (inr (inl e)) = go (bad-is form)
+  where
+    go : IsOneOf (1 ∷ 3 ∷ []) (status_for form bad) → IsOneOf (0 ∷ 1 ∷ 2 ∷ 3 ∷ 4 ∷ 5 ∷ 6 ∷ 7 ∷ []) status
+    go (inl one) = inr (inl (e ∙ one))
+    go (inr (inl three)) = inr (inr (inr (inl (e ∙ three))))
+    go (inr (inr h)) = absurd h
 all-statuses form status (inr (inr (inl e))) = inr (inr (inr (inr (inl e))))
 all-statuses form status (inr (inr (inr (inl e)))) = inr (inr (inr (inr (inr (inl e)))))
 all-statuses form status (inr (inr (inr (inr (inl e))))) = inr (inr (inr (inr (inr (inr (inl e))))))

@@ -4,7 +4,7 @@ use Rattle.outer_io.specs.declared.sink.Sink.{Ghosts as SinkGhosts}
 use Rattle.outer_io.specs.declared.source.Source.{Ghosts as SourceGhosts}
 use Rattle.board_model.specs.Report.{Mode}
 use Rattle.scenario_cli.specs.declared.form.Form.{Form}
-use Rattle.scenario_cli.specs.declared.form.Form.TheVariants.{Run, SerialRun, Check, Frame, Ring}
+use Rattle.scenario_cli.specs.declared.form.Form.TheVariants.{Run, SerialRun, Check, Frame, Ring, Relay, Calls}
 use Rattle.scenario_cli.specs.Words.{IsForm, IsNoForm, IsOneOfForms, IsOneOf, run_in}
 use Rattle.scenario_cli.specs.LoadText.{IsLoad}
 use Rattle.scenario_cli.specs.Due.{Reports}
@@ -35,5 +35,5 @@ module _ {S K : Type 0} {source : SourceGhosts S} {sink : SinkGhosts K} {form : 
   pub usage-of : status ≡ 2 → IsNoForm words
   usage-of two = absurd (no-usage-form form status answers.statuses two)
 
-  pub refused-of : status ≡ 3 → IsOneOfForms (Run ∷ SerialRun ∷ []) words
+  pub refused-of : status ≡ 3 → IsOneOfForms (Run ∷ SerialRun ∷ Relay ∷ Calls ∷ []) words
   refused-of three = refused-form form words status is answers.statuses three

@@ -6,12 +6,13 @@ use Rattle.outer_io.specs.declared.sink.Sink.{Ghosts as SinkGhosts}
 use Rattle.outer_io.specs.declared.source.Source.{Ghosts as SourceGhosts}
 use Rattle.board_model.specs.Report.{Mode, serial, threads}
 use Rattle.scenario_cli.specs.declared.form.Form.{Form}
-use Rattle.scenario_cli.specs.declared.form.Form.TheVariants.{Run, SerialRun, Check, Frame, Ring}
+use Rattle.scenario_cli.specs.declared.form.Form.TheVariants.{Run, SerialRun, Check, Frame, Ring, Relay, Calls}
 use Rattle.scenario_cli.specs.Words.{IsForm, IsOneOfForms, IsOneOf, run_in, report_limit}
 use Rattle.scenario_cli.specs.VerdictText.{HasNoWrongLine}
 use Rattle.scenario_cli.specs.Due.{Reports}
 use Rattle.scenario_cli.specs.Answers.{good, bad, status_for, IsAnswer, OfInput, IfReportOfRun, Ends, Unread}
 use Rattle.scenario_cli.proofs.ReportsTold.{run_is_right}
+use Rattle.scenario_cli.proofs.Telling.{never}
 
 -- a status that no reading and no writing explains is that of a bad input
 bad-status : (form : Form) (status n : ℕ) → IsOneOf (0 ∷ status_for form bad ∷ 4 ∷ 5 ∷ 6 ∷ 7 ∷ []) status → status ≡ n → 0 ≢ n → 4 ≢ n → 5 ≢ n → 6 ≢ n → 7 ≢ n → status_for form bad ≡ n
@@ -32,26 +33,23 @@ wrong-form form words status form_is statuses is = go form form_is (bad-status f
     go Check this e = inl this
     go Frame this e = inr (inl this)
     go Ring this e = inr (inr (inl this))
+    go Relay this e = absurd (omega (arith, e))
+    go Calls this e = absurd (omega (arith, e))
 
-pub refused-form : (form : Form) (words : List (List ℕ)) (status : ℕ) → IsForm form words → IsOneOf (0 ∷ status_for form bad ∷ 4 ∷ 5 ∷ 6 ∷ 7 ∷ []) status → status ≡ 3 → IsOneOfForms (Run ∷ SerialRun ∷ []) words
+pub refused-form : (form : Form) (words : List (List ℕ)) (status : ℕ) → IsForm form words → IsOneOf (0 ∷ status_for form bad ∷ 4 ∷ 5 ∷ 6 ∷ 7 ∷ []) status → status ≡ 3 → IsOneOfForms (Run ∷ SerialRun ∷ Relay ∷ Calls ∷ []) words
 refused-form form words status form_is statuses is = go form form_is (bad-status form status 3 statuses is (λ e. omega (arith, e)) (λ e. omega (arith, e)) (λ e. omega (arith, e)) (λ e. omega (arith, e)) (λ e. omega (arith, e)))
   where
-    go : (f : Form) → IsForm f words → status_for f bad ≡ 3 → IsOneOfForms (Run ∷ SerialRun ∷ []) words
+    go : (f : Form) → IsForm f words → status_for f bad ≡ 3 → IsOneOfForms (Run ∷ SerialRun ∷ Relay ∷ Calls ∷ []) words
     go Run this e = inl this
     go SerialRun this e = inr (inl this)
     go Check this e = absurd (omega (arith, e))
     go Frame this e = absurd (omega (arith, e))
     go Ring this e = absurd (omega (arith, e))
+    go Relay this e = inr (inr (inl this))
+    go Calls this e = inr (inr (inr (inl this)))
 
 pub no-usage-form : (form : Form) (status : ℕ) → IsOneOf (0 ∷ status_for form bad ∷ 4 ∷ 5 ∷ 6 ∷ 7 ∷ []) status → status ≢ 2
-no-usage-form form status statuses is = go form (bad-status form status 2 statuses is (λ e. omega (arith, e)) (λ e. omega (arith, e)) (λ e. omega (arith, e)) (λ e. omega (arith, e)) (λ e. omega (arith, e)))
-  where
-    go : (f : Form) → status_for f bad ≡ 2 → ⊥
-    go Run e = omega (arith, e)
-    go SerialRun e = omega (arith, e)
-    go Check e = omega (arith, e)
-    go Frame e = omega (arith, e)
-    go Ring e = omega (arith, e)
+no-usage-form form status statuses is = never form bad 2 (λ e. omega (arith, e)) (λ e. omega (arith, e)) (λ e. omega (arith, e)) (bad-status form status 2 statuses is (λ e. omega (arith, e)) (λ e. omega (arith, e)) (λ e. omega (arith, e)) (λ e. omega (arith, e)) (λ e. omega (arith, e)))
 
 -- the report of a run, in its mode
 pub reports : (mode : Mode) (rest old new : Option (List ℕ)) → OfInput (run_in mode) rest (λ text. (output : List ℕ) × IsAnswer (run_in mode) good text output × Appends old new output) → Reports mode rest old new

@@ -1,5 +1,5 @@
--- What was read, where the source tells its bytes.
-use Rattle.std.proofs.Common.{◌≡◌, ℕ, List, ◌++◌, [], Option, Some, None, sym, ap, ◌∙◌, append-nil, subst}
+-- What was read, where the source tells its bytes; and that a text tells something or is refused.
+use Rattle.std.proofs.Common.{◌≡◌, ℕ, List, ◌++◌, [], Option, Some, None, Result, Ok, Err, sym, ap, ◌∙◌, append-nil, subst}
 use Rattle.std.specs.Prelude.{IfSome}
 use Rattle.std.specs.Io.KnownBytes.{Consumes, IsAtEnd}
 
@@ -12,3 +12,7 @@ pub if_text : (old new : Option (List ℕ)) (text : List ℕ) (Q : List ℕ → 
 if_text None new text Q read end h = tt
 if_text (Some all) None text Q read end h = absurd read
 if_text (Some all) (Some rest) text Q read end h = subst Q (sym (all_read all rest text read end)) h
+
+-- it does not both
+pub not_both : {A E : Type 0} (r : Result A E) (x : A) (e : E) → r ≡ Ok x → r ≡ Err e → ⊥
+not_both r x e ok err = let both : Ok x ≡ Err e = sym ok ∙ err in absurd cc

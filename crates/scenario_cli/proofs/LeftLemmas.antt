@@ -24,7 +24,7 @@ use Rattle.scenario_cli.specs.VerdictText.{HasNoWrongLine}
 use Rattle.scenario_cli.proofs.RunsChecked.{left-checked}
 
 -- the headline holds of every whole run of the board
-sound_of : (s : Scenario) (js : List DomainJournal) → IsLawfulBoard s → IsBoardRun s js → AreWhole s js → IsSound s js
+pub sound_of : (s : Scenario) (js : List DomainJournal) → IsLawfulBoard s → IsBoardRun s js → AreWhole s js → IsSound s js
 sound_of s js lawful run whole = record { board_run = run; whole = whole; headline = linked_headline s js (lawful_is_linked s lawful) run }
 
 left_serial : (s : Scenario) (o : Outcome) → IsLawfulBoard s → IsOutcome s o (serial_run s) → o.rings ≡ [] → IsLeft serial s o
@@ -32,7 +32,7 @@ left_serial s o lawful is none =
     let run = lawful_run s lawful in
     record { journals = serial_run s; left = refl; sound = sound_of s (serial_run s) lawful run.0 run.1; told = is; rings_left = none }
 
-left_threads : (s : Scenario) (o : Outcome) → IsLawfulBoard s → IsThreadRun s o → IsLeft threads s o
+pub left_threads : (s : Scenario) (o : Outcome) → IsLawfulBoard s → IsThreadRun s o → IsLeft threads s o
 left_threads s o lawful is = record { journals = is.journals; left = tt; sound = sound_of s is.journals lawful is.run is.whole; told = is.tells; rings_left = (is.rings, is.in_time) }
 
 -- so it is with what a run answers
@@ -44,10 +44,14 @@ pub if_left_threads : (s : Scenario) (r : Result Outcome NoMemory) → IsLawfulB
 if_left_threads s (Ok o) lawful is = left_threads s o lawful is
 if_left_threads s (Err e) lawful is = tt
 
--- its report is what is written of the outcome
+-- what is written of an outcome is the report of the journals that it tells
+pub told-left : (mode : Mode) (s : Scenario) (o : Outcome) (js : List DomainJournal) → IsOutcome s o js → outcome_report mode s o ≡ report_left mode s js o.rings
+told-left mode s o js told = rw (told.journals, told.channels, told.messages, told.places) (cc)
+
+-- of what a run leaves it is a report
 pub left-reported : (mode : Mode) (s : Scenario) (o : Outcome) → IsLawfulBoard s → IsLeft mode s o → IsReportOf mode s (outcome_report mode s o)
 left-reported mode s o lawful is =
-    let written : outcome_report mode s o ≡ report_left mode s is.journals o.rings = rw (is.told.journals, is.told.channels, is.told.messages, is.told.places) (cc) in
+    let written = told-left mode s o is.journals is.told in
     record {
       journals = is.journals;
       left = is.left;

@@ -9,7 +9,8 @@ pub mod FormClauses
 pub mod HexLemmas
 pub mod FaultPlaces
 pub mod FrameLines
-pub mod RefusalPieces
 pub mod LoadWords
 pub mod ReportsTold
 pub mod RunsChecked
+pub mod RelayLemmas
+pub mod CallsLemmas

@@ -10,7 +10,7 @@ use Rattle.board_model.specs.Grammar.{line_of}
 use Rattle.board_model.specs.Report.{ending}
 use Rattle.board_model.proofs.WordDecimals.{number-decimal, decimal-is, decimal-read}
 use Rattle.scenario_cli.specs.declared.form.Form.{Form}
-use Rattle.scenario_cli.specs.declared.form.Form.TheVariants.{Run, SerialRun, Check, Frame, Ring}
+use Rattle.scenario_cli.specs.declared.form.Form.TheVariants.{Run, SerialRun, Check, Frame, Ring, Relay, Calls}
 use Rattle.scenario_cli.specs.Words.{words_of, IsForm, IsNoLoad, IsNoForm}
 use Rattle.scenario_cli.specs.LoadText.{IsLoad}
 
@@ -49,6 +49,8 @@ two_words SerialRun digits words form told = let same = sym form ∙ told in cc
 two_words Check digits words form told = let same = sym form ∙ told in cc
 two_words Frame digits words form told = let same = sym form ∙ told in cc
 two_words Ring digits words form told = let same = sym form ∙ told in cc
+two_words Relay digits words form told = let same = sym form ∙ told in cc
+two_words Calls digits words form told = let same = sym form ∙ told in cc
 
 -- the words of a load are those of no form with an input
 pub form_no_load : (form : Form) (packets : ℕ) (words : List (List ℕ)) → IsForm form words → IsLoad packets words → ⊥

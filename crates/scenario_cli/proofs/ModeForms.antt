@@ -1,6 +1,5 @@
 -- The forms of the two modes of a run, whose tables are the same but for the mode.
-use Rattle.std.proofs.Common.{◌≡◌, ℕ, List, Ok, Err, refl, sym, ◌∙◌}
-use Rattle.std.specs.Prelude.{Result}
+use Rattle.std.proofs.Common.{◌≡◌, ℕ, List, Err, refl}
 use Rattle.board_model.specs.declared.scenario.Scenario.{Scenario}
 use Rattle.board_model.specs.Language.{RefusedLine, refused, told_by}
 use Rattle.board_model.specs.Report.{Mode, serial, threads}
@@ -10,6 +9,7 @@ use Rattle.scenario_lang.specs.Refused.{IfRefused}
 use Rattle.scenario_cli.specs.Words.{run_in}
 use Rattle.scenario_cli.specs.Due.{IsScenario, IsRefused, IsFaultOf, IsReport}
 use Rattle.scenario_cli.specs.Answers.{good, bad, status_for, IsOfSort, IsRefusal, IsAnswer}
+use Rattle.scenario_cli.proofs.Inputs.{not_both}
 
 pub refused-status : (mode : Mode) → status_for (run_in mode) bad ≡ 3
 refused-status serial = refl
@@ -28,16 +28,13 @@ as-refusal serial text output is = is
 as-refusal threads text output is = is
 
 -- a text is a scenario or none, and not both
-either : (r : Result Scenario RefusedLine) (s : Scenario) (l : RefusedLine) → r ≡ Ok s → r ≡ Err l → ⊥
-either r s l ok err = let both : Ok s ≡ Err l = sym ok ∙ err in absurd cc
-
 pub no-refusal : (mode : Mode) (text : List ℕ) (s : Scenario) → IsScenario text s → IsOfSort (run_in mode) bad text → ⊥
-no-refusal serial text s is of = either (told_by text) s of.0 is of.1
-no-refusal threads text s is of = either (told_by text) s of.0 is of.1
+no-refusal serial text s is of = not_both (told_by text) s of.0 is of.1
+no-refusal threads text s is of = not_both (told_by text) s of.0 is of.1
 
 pub no-scenario : (mode : Mode) (text : List ℕ) (l : RefusedLine) → IsRefused text l → IsOfSort (run_in mode) good text → ⊥
-no-scenario serial text l is of = either (told_by text) of.0 l of.1 is
-no-scenario threads text l is of = either (told_by text) of.0 l of.1 is
+no-scenario serial text l is of = not_both (told_by text) of.0 l of.1 is
+no-scenario threads text l is of = not_both (told_by text) of.0 l of.1 is
 
 -- what a fault of reading says of the text
 pub fault-of : (text : List ℕ) (fault : ScenarioFault) → IfRefused {X = Scenario} (Err fault) (λ line reason. told_by text ≡ Err (refused line reason)) → IsFaultOf text fault

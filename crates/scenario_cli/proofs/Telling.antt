@@ -7,34 +7,45 @@ use Rattle.outer_io.specs.declared.sink.Sink.{Ghosts as SinkGhosts}
 use Rattle.outer_io.specs.Faults.{HasCause}
 use Rattle.outer_io.specs.Writes.{Writes as WritesText, WritesStop}
 use Rattle.scenario_cli.specs.declared.form.Form.{Form}
-use Rattle.scenario_cli.specs.declared.form.Form.TheVariants.{Run, SerialRun, Check, Frame, Ring}
+use Rattle.scenario_cli.specs.declared.form.Form.TheVariants.{Run, SerialRun, Check, Frame, Ring, Relay, Calls}
 use Rattle.scenario_cli.specs.Words.{IsOneOf}
 use Rattle.scenario_cli.specs.Answers.{Sort, good, bad, other_sort, status_for, IsOfSort, IsAnswer, Stops, Tells, Writes, WritesAtOnce, Unread}
 
 -- ---- statuses
 
+-- a bad input has one of these two
+pub bad-is : (form : Form) → IsOneOf (1 ∷ 3 ∷ []) (status_for form bad)
+bad-is Run = inr (inl refl)
+bad-is SerialRun = inr (inl refl)
+bad-is Check = inl refl
+bad-is Frame = inl refl
+bad-is Ring = inl refl
+bad-is Relay = inr (inl refl)
+bad-is Calls = inr (inl refl)
+
+-- so an input that was read has no other than these and 0
+pub never : (form : Form) (sort : Sort) (n : ℕ) → 0 ≢ n → 1 ≢ n → 3 ≢ n → status_for form sort ≢ n
+never form good n zero one three is = zero is
+never form bad n zero one three is = go (bad-is form)
+  where
+    go : IsOneOf (1 ∷ 3 ∷ []) (status_for form bad) → ⊥
+    go (inl e) = one (sym e ∙ is)
+    go (inr (inl e)) = three (sym e ∙ is)
+    go (inr (inr h)) = h
+
 pub never-five : (form : Form) (sort : Sort) → status_for form sort ≢ 5
-never-five form good is = omega (arith, is)
-never-five Run bad is = omega (arith, is)
-never-five SerialRun bad is = omega (arith, is)
-never-five Check bad is = omega (arith, is)
-never-five Frame bad is = omega (arith, is)
-never-five Ring bad is = omega (arith, is)
+never-five form sort = never form sort 5 (λ e. omega (arith, e)) (λ e. omega (arith, e)) (λ e. omega (arith, e))
 
 pub never-six : (form : Form) (sort : Sort) → status_for form sort ≢ 6
-never-six form good is = omega (arith, is)
-never-six Run bad is = omega (arith, is)
-never-six SerialRun bad is = omega (arith, is)
-never-six Check bad is = omega (arith, is)
-never-six Frame bad is = omega (arith, is)
-never-six Ring bad is = omega (arith, is)
+never-six form sort = never form sort 6 (λ e. omega (arith, e)) (λ e. omega (arith, e)) (λ e. omega (arith, e))
 
 pub never-good : (form : Form) → status_for form bad ≢ 0
-never-good Run is = omega (arith, is)
-never-good SerialRun is = omega (arith, is)
-never-good Check is = omega (arith, is)
-never-good Frame is = omega (arith, is)
-never-good Ring is = omega (arith, is)
+never-good form is = go (bad-is form)
+  where
+    go : IsOneOf (1 ∷ 3 ∷ []) (status_for form bad) → ⊥
+    go (inl e) = omega (arith, e, is)
+    go (inr (inl e)) = omega (arith, e, is)
+    go (inr (inr h)) = h
 
 -- the two sorts have different statuses
 pub one-sort : (form : Form) (sort sort' : Sort) → status_for form sort ≡ status_for form sort' → sort ≡ sort'

@@ -9,6 +9,9 @@ use Rattle.outer_io.specs.declared.sink.Sink.{Ghosts as SinkGhosts}
 use Rattle.outer_io.specs.declared.source.Source.{Ghosts as SourceGhosts}
 use Rattle.outer_io.specs.declared.source.ReadFault.{ReadFault}
 use Rattle.outer_io.specs.declared.source.ReadFault.TheVariants as read_fault
+use Rattle.actor_lang.specs.InputFaults.{RefusedInput}
+use Rattle.actor_lang.specs.RelayInput.{Relay as RelayRead, relay_told}
+use Rattle.actor_lang.specs.CallsInput.{NumberedCalls, calls_told}
 use Rattle.board_model.specs.declared.scenario.Scenario.{Scenario}
 use Rattle.board_model.specs.Language.{RefusedLine}
 use Rattle.board_model.specs.Report.{serial, threads}
@@ -17,13 +20,16 @@ use Rattle.report_text.specs.declared.verdict.Verdict.TheVariants.{Right, Wrong}
 use Rattle.ring_trace.specs.declared.checking.ImageInfo.{ImageInfo}
 use Rattle.ring_trace.specs.declared.checking.ImageFault.{ImageFault}
 use Rattle.scenario_cli.specs.declared.form.Form.{Form}
-use Rattle.scenario_cli.specs.declared.form.Form.TheVariants.{Run, SerialRun, Check, Frame, Ring}
+use Rattle.scenario_cli.specs.declared.form.Form.TheVariants.{Run, SerialRun, Check, Frame, Ring, Relay, Calls}
 use Rattle.scenario_cli.specs.Words.{IsOneOf, report_limit, limit_of}
 use Rattle.scenario_cli.specs.RefusedText.{refusal_text}
 use Rattle.scenario_cli.specs.VerdictText.{verdict_line, WrongLine, HasNoWrongLine, HasWrongLine, IsOfRun}
 use Rattle.scenario_cli.specs.FrameText.{TellsRight, TellsWrong, wrong_in}
 use Rattle.scenario_cli.specs.ImageText.{IsImage, IsNoImage, image_line, image_fault_line}
 use Rattle.scenario_cli.specs.Due.{IsScenario, IsRefused, IsReport}
+use Rattle.scenario_cli.specs.InputRefusal.{IsInputRefusal}
+use Rattle.scenario_cli.specs.RelayReport.{IsRelay, IsNoRelay, IsRelayReport}
+use Rattle.scenario_cli.specs.CallsReport.{AreCalls, AreNoCalls, IsCallsReport}
 
 -- the input is what the form asks for, or is not
 pub data Sort : Type 0 where
@@ -42,6 +48,8 @@ status_for SerialRun bad = 3
 status_for Check bad = 1
 status_for Frame bad = 1
 status_for Ring bad = 1
+status_for Relay bad = 3
+status_for Calls bad = 3
 
 -- the status for an input that was not read to its end
 abbrev pub status_after : ReadFault → ℕ
@@ -49,7 +57,8 @@ status_after read_fault.Failed = 4
 status_after read_fault.TooLong = 7
 status_after read_fault.NoMemory = 6
 
--- ---- the sort of an input: a scenario or none, a report without a wrong line or with one, a sound frame or none, a sound image or none
+-- ---- the sort of an input: a scenario or none, a report without a wrong line or with one, a sound frame or none, a sound image or none, a relay
+-- or none, numbered calls or none
 
 abbrev pub IsOfSort : Form → Sort → List ℕ → Type 0
 IsOfSort Run good text = (s : Scenario) × IsScenario text s
@@ -62,6 +71,10 @@ IsOfSort Frame good text = wrong_in text ≡ None
 IsOfSort Frame bad text = IsSome (wrong_in text)
 IsOfSort Ring good bytes = (info : ImageInfo) × IsImage bytes info
 IsOfSort Ring bad bytes = (fault : ℕ × ImageFault) × IsNoImage bytes fault
+IsOfSort Relay good text = (relay : RelayRead) × IsRelay text relay
+IsOfSort Relay bad text = (r : RefusedInput) × IsNoRelay text r
+IsOfSort Calls good text = (calls : NumberedCalls) × AreCalls text calls
+IsOfSort Calls bad text = (r : RefusedInput) × AreNoCalls text r
 
 -- ---- the output for it
 
@@ -106,6 +119,10 @@ IsAnswer Frame good text output = TellsRight text output
 IsAnswer Frame bad text output = TellsWrong text output
 IsAnswer Ring good bytes output = IsRightImage bytes output
 IsAnswer Ring bad bytes output = IsWrongImage bytes output
+IsAnswer Relay good text output = IsRelayReport text output
+IsAnswer Relay bad text output = IsInputRefusal (relay_told text) output
+IsAnswer Calls good text output = IsCallsReport text output
+IsAnswer Calls bad text output = IsInputRefusal (calls_told text) output
 
 -- the output that is due for an input, of whichever sort it is
 abbrev pub IsDue : Form → List ℕ → List ℕ → Type 0

@@ -1,5 +1,6 @@
 pub mod Words
 pub mod LoadText
+pub mod PlaceText
 pub mod RefusedText
 pub mod WrongText
 pub mod VerdictText
@@ -7,8 +8,12 @@ pub mod Hex
 pub mod FrameText
 pub mod ImageText
 pub mod Due
+pub mod InputRefusal
+pub mod RelayReport
+pub mod CallsReport
 pub mod Answers
 pub mod Left
+pub mod ActorLines
 pub mod HexFault
 pub mod Places
 pub mod Content

@@ -4,7 +4,7 @@ use Rattle.std.specs.Prelude.{◌≡◌, ◌⊎◌, ℕ, List, [], ◌∷◌, ma
 use Rattle.std.specs.Global.{Global}
 use Rattle.board_model.specs.Report.{Mode, serial, threads}
 use Rattle.scenario_cli.specs.declared.form.Form.{Form}
-use Rattle.scenario_cli.specs.declared.form.Form.TheVariants.{Run, SerialRun, Check, Frame, Ring}
+use Rattle.scenario_cli.specs.declared.form.Form.TheVariants.{Run, SerialRun, Check, Frame, Ring, Relay, Calls}
 use Rattle.scenario_cli.specs.LoadText.{IsLoad}
 
 -- the words as bytes
@@ -18,6 +18,8 @@ form_words SerialRun = codes "run" ∷ codes "--serial" ∷ []
 form_words Check = codes "check" ∷ []
 form_words Frame = codes "frame" ∷ []
 form_words Ring = codes "ring" ∷ []
+form_words Relay = codes "relay" ∷ []
+form_words Calls = codes "calls" ∷ []
 
 -- the words of a run on threads whose domains sleep where they wait without end
 abbrev pub IsBellRun : List (List ℕ) → Type 0
@@ -52,9 +54,10 @@ pub record IsNoForm (words : List (List ℕ)) : Type 0 where
 
 -- what is written where the words are none of the forms
 abbrev pub usage_text : List ℕ
-usage_text = codes "usage: mcrun run | run --serial | check | frame | ring | load N | run --bells\n"
+usage_text = codes "usage: mcrun run | run --serial | check | frame | ring | load N | run --bells | relay | calls\n"
 
--- the most bytes of an input: of a scenario, of the text of a frame and of an image, and of a report
+-- the most bytes of an input: of a scenario, of the text of a frame, of an image, and of the texts of a relay and of numbered calls; and of a
+-- report
 abbrev pub input_limit : ℕ
 input_limit = 8388608
 

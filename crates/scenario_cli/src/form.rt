@@ -7,7 +7,7 @@ ghost use Rattle.scenario_cli.specs.LoadText.{IsLoad};
 
 use board_model::number_to;
 
-/// The most bytes of a scenario, of the text of a frame, and of an image.
+/// The most bytes of a scenario, of the text of a frame, of an image, and of the texts of a relay and of numbered calls.
 const INPUT_LIMIT: usize = 8_388_608;
 
 /// The most bytes of a report.
@@ -29,6 +29,10 @@ pub enum Form {
     Frame,
     /// `ring`: the bytes of the image of a ring in, what it is of or its first fault out.
     Ring,
+    /// `relay`: hops and packets in, the report of their relay on threads out.
+    Relay,
+    /// `calls`: numbered calls in, the report of their run on threads and what became of them out.
+    Calls,
 }
 
 impl Form {
@@ -38,7 +42,8 @@ impl Form {
     {
         match self {
             Form::Check => REPORT_LIMIT,
-            Form::Run | Form::SerialRun | Form::Frame | Form::Ring => INPUT_LIMIT,
+            Form::Run | Form::SerialRun | Form::Frame | Form::Ring | Form::Relay | Form::Calls =>
+                INPUT_LIMIT,
         }
     }
 }
@@ -129,6 +134,10 @@ fn word_form(word: &String) -> Option<Form>
         Some(Form::Frame)
     } else if word.as_str() == "ring" {
         Some(Form::Ring)
+    } else if word.as_str() == "relay" {
+        Some(Form::Relay)
+    } else if word.as_str() == "calls" {
+        Some(Form::Calls)
     } else {
         None
     }

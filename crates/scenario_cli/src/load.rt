@@ -21,7 +21,7 @@ use std::alloc::Global;
 
 /// What is written where the words are none of the forms.
 const USAGE: &[u8] =
-    b"usage: mcrun run | run --serial | check | frame | ring | load N | run --bells\n";
+    b"usage: mcrun run | run --serial | check | frame | ring | load N | run --bells | relay | calls\n";
 
 /// Does what words say that are of no form with an input: runs a load board, or writes the usage. Returns the status.
 pub fn without_input<K: Sink>(alloc: Global, words: &[String], output: &mut K) -> u8

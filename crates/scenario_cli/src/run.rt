@@ -10,7 +10,7 @@ ghost use Rattle.scenario_cli.specs.Due.{IsScenario, IsFaultOf};
 ghost use Rattle.scenario_cli.specs.Left.{IsLeft};
 ghost use Rattle.scenario_cli.specs.Answers.{Tells};
 
-use crate::refused::write_refusal;
+use crate::refused::{line_reason_word, write_refusal};
 use crate::status::{self, after_write};
 use board_model::Scenario;
 use board_runner::{NoGate, Outcome, run_bells, run_serial, run_threads, write_report};
@@ -104,7 +104,8 @@ fn tell_fault<K: Sink>(fault: ScenarioFault, output: &mut K) -> u8
 {
     match fault {
         ScenarioFault::Refused { line, reason } => {
-            after_write(write_refusal(line, reason, output), status::REFUSED)
+            let written = write_refusal(line, line_reason_word(reason), output);
+            after_write(written, status::REFUSED)
         }
         ScenarioFault::NoMemory => status::NO_MEMORY,
     }

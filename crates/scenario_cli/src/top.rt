@@ -1,15 +1,17 @@
 ghost use Rattle.std.specs.Prelude.{◌≡◌, ◌≤◌, ◌∷◌, [], ℕ, length};
 ghost use Rattle.board_model.specs.Report.{Mode};
-ghost use Rattle.scenario_cli.specs.declared.form.Form.TheVariants.{Run, SerialRun, Check, Frame, Ring};
+ghost use Rattle.scenario_cli.specs.declared.form.Form.TheVariants.{Run, SerialRun, Check, Frame, Ring, Relay, Calls};
 ghost use Rattle.scenario_cli.specs.Words.{words_of, IsForm, IsBellRun, run_in, IsNoForm, IsOneOfForms, usage_text, IsOneOf, limit_of};
 ghost use Rattle.scenario_cli.specs.LoadText.{IsLoad, load_report};
 ghost use Rattle.scenario_cli.specs.Due.{Reports};
 ghost use Rattle.scenario_cli.specs.Answers.{Tells, Answers, Ends, Writes, WritesAtOnce, IfReportOfRun};
 
+use crate::calls::calls_text;
 use crate::form::{Form, form_of, is_bell_run};
 use crate::frame::tell_frame;
 use crate::image::tell_image;
 use crate::load::without_input;
+use crate::relay::relay_text;
 use crate::report::tell_report;
 use crate::run::{run_text, run_text_with_bells};
 use crate::status::after_read;
@@ -26,14 +28,19 @@ use std::thread::Threads;
 /// reads the hexadecimal text of a frame and writes what the frame says, or its first fault and the place of it. The form `ring` reads
 /// the image of a ring, as its bytes, and writes its size, its queue and its two indices, or its first fault and the place of it. The
 /// form `load N` reads nothing: it runs the load board of N packets, from 1 to 100,000, serially, and writes what became of its packets.
+/// The form `relay` reads a number of hops, the size of the rings and packets, has actors send the packets from the first domain of a row
+/// to the last, on threads, and writes the report of that run. Not all packets need arrive; those that do come first, in their order.
+/// The form `calls` reads numbered calls of one to seven clients, has actors make them on threads, each request sent as often as the input
+/// says, and writes the report of that run, and behind it the calls that the server carried out, what each client got, and the cells. Not all
+/// calls need be carried out; of each client they are the first, in their order, each once.
 ///
 /// The statuses are 0 where the report was written, the report read is right, or the frame or image is sound, 1 where the input is not
 /// a right report, a sound frame or a sound image, 2 where the words are none of the forms and the usage was written, 3 where the input
-/// is not a scenario and the refusal was written, 4 where a read failed, 5 where a write failed, 6 where an allocation failed, and 7
-/// where the input has more than 8,388,608 bytes, or for `check` more than 268,435,456. Words come first, then reading, the grammar,
-/// the report, the frame or the image, running, and writing.
+/// is not a scenario, or for `relay` not a relay and for `calls` no numbered calls, and the refusal was written, 4 where a read failed, 5 where a
+/// write failed, 6 where an allocation failed, and 7 where the input has more than 8,388,608 bytes, or for `check` more than 268,435,456. Words
+/// come first, then reading, the grammar, the report, the frame or the image, running, and writing.
 ///
-/// The forms `run` and `run --bells` join threads, and `run --bells` waits, so nothing is promised of whether they return.
+/// The forms `run`, `run --bells`, `relay` and `calls` join threads, and `run --bells` waits, so nothing is promised of whether they return.
 pub fn mcrun<T: Threads + Wait + Sync, S: Source, K: Sink>(
     rt: &T,
     alloc: Global,
@@ -64,7 +71,7 @@ pub fn mcrun<T: Threads + Wait + Sync, S: Source, K: Sink>(
     // 1, 2 and 3 come with these words alone.
     ensures wrong_words { result ≡ 1 → IsOneOfForms (Check ∷ Frame ∷ Ring ∷ []) (words_of words.now) }
     ensures usage_words { result ≡ 2 → IsNoForm (words_of words.now) }
-    ensures refused_words { result ≡ 3 → IsOneOfForms (Run ∷ SerialRun ∷ []) (words_of words.now) }
+    ensures refused_words { result ≡ 3 → IsOneOfForms (Run ∷ SerialRun ∷ Relay ∷ Calls ∷ []) (words_of words.now) }
 {
     if is_bell_run(words) {
         with_bells(rt, alloc, input, output)
@@ -73,7 +80,8 @@ pub fn mcrun<T: Threads + Wait + Sync, S: Source, K: Sink>(
     }
 }
 
-/// Does what the words of any form but `run --bells` say. Its bound has no `Wait`: it returns where the threads of `run` do.
+/// Does what the words of any form but `run --bells` say. Its bound has no `Wait`: it returns where the threads of `run`, `relay` and `calls`
+/// do.
 fn without_bells<T: Threads + Sync, S: Source, K: Sink>(
     rt: &T,
     alloc: Global,
@@ -92,7 +100,7 @@ fn without_bells<T: Threads + Sync, S: Source, K: Sink>(
     ensures usage_reads_nothing { IsNoForm (words_of words.now) → input.new ≡ input.old }
     ensures wrong_words { result ≡ 1 → IsOneOfForms (Check ∷ Frame ∷ Ring ∷ []) (words_of words.now) }
     ensures usage_words { result ≡ 2 → IsNoForm (words_of words.now) }
-    ensures refused_words { result ≡ 3 → IsOneOfForms (Run ∷ SerialRun ∷ []) (words_of words.now) }
+    ensures refused_words { result ≡ 3 → IsOneOfForms (Run ∷ SerialRun ∷ Relay ∷ Calls ∷ []) (words_of words.now) }
 {
     match form_of(words) {
         Some(form) => with_input(rt, alloc, form, input, output),
@@ -150,5 +158,7 @@ fn with_text<T: Threads + Sync, K: Sink>(
         Form::Check => tell_report(alloc, text, output),
         Form::Frame => tell_frame(alloc, text, output),
         Form::Ring => tell_image(text, output),
+        Form::Relay => relay_text(rt, alloc, text, output),
+        Form::Calls => calls_text(rt, alloc, text, output),
     }
 }

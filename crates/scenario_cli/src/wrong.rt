@@ -2,11 +2,11 @@
 
 ghost use Rattle.std.specs.Prelude.{◌≤◌, ℕ, length, IsOk, OnErr};
 ghost use Rattle.outer_io.specs.Faults.{HasCause};
-ghost use Rattle.outer_io.specs.Puts.{Puts};
 ghost use Rattle.outer_io.specs.Writes.{Writes, WritesStop};
 ghost use Rattle.scenario_cli.specs.WrongText.{wrong_line};
 
-use outer_io::{Failed, Sink, Writer};
+use crate::place_line::write_place_line;
+use outer_io::{Failed, Sink};
 
 /// Writes the line of what is wrong at a place.
 ///
@@ -19,17 +19,5 @@ pub fn write_wrong<K: Sink>(place: usize, reason: &[u8], sink: &mut K) -> Result
     ensures room { (n : ℕ) → K.takes sink.old n → length (wrong_line place reason.now) ≤ n → IsOk result }
     ensures none_after_failure { OnErr result (WritesStop (K.written sink.old) (K.written sink.new) (K.calls sink.old) (K.calls sink.new) (wrong_line place reason.now)) }
 {
-    let mut out = Writer::new(sink);
-    put_wrong(&mut out, place, reason);
-    out.finish()
-}
-
-fn put_wrong<K: Sink>(out: &mut Writer<'_, K>, place: usize, reason: &[u8])
-    ensures { Puts K.Sink out.old out.new (wrong_line place reason.now) }
-{
-    out.put(b"wrong ");
-    out.put_number(place as u64);
-    out.put(b" ");
-    out.put(reason);
-    out.put(b"\n");
+    write_place_line(b"wrong", place as u64, reason, sink)
 }

@@ -1,4 +1,4 @@
-use Rattle.std.proofs.Common.{◌≡◌, inr}
+use Rattle.std.proofs.Common.{inr}
 use Rattle.scenario_cli.specs.Words.{words_of}
 use Rattle.scenario_cli.proofs.FormClauses.{form-of, headline-of, right-of, no-load-of, no-usage-of, wrong-of, usage-of, refused-of}
 use Rattle.scenario_cli.proofs.top.mcrun.Goals as goal

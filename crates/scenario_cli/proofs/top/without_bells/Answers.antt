@@ -1,4 +1,4 @@
-use Rattle.std.proofs.Common.{◌≡◌, refl, arith}
+use Rattle.std.proofs.Common.{refl, arith}
 use Rattle.scenario_cli.specs.declared.form.Form.TheVariants.{Check}
 use Rattle.scenario_cli.specs.Words.{words_of, run_in}
 use Rattle.scenario_cli.proofs.FormClauses.{form-of, headline-of, right-of, no-load-of, no-usage-of, wrong-of, usage-of, refused-of}

@@ -1,0 +1,29 @@
+use Rattle.std.proofs.Common.{rules}
+use Rattle.outer_io.proofs.Finishing.{finished, puts_same}
+use Rattle.scenario_cli.proofs.place_line.write_place_line.Goals as goal
+
+pub returns-clause-bytes : goal.returns-clause-bytes
+returns-clause-bytes g c =
+    let written = finished g.K.Sink c.new-out.result c.put_place_line.new.out _ c.finish.result _ c.new-out.ensures.sound c.new-out.ensures.empty c.put_place_line.ensures c.finish.ensures in
+    let bytes = rw c.new-out.ensures.sink at written.bytes in
+    let same = puts_same _ _ _ _ c.put_place_line.ensures in
+    search rules
+
+pub returns-clause-cause : goal.returns-clause-cause
+returns-clause-cause g c =
+    let written = finished g.K.Sink c.new-out.result c.put_place_line.new.out _ c.finish.result _ c.new-out.ensures.sound c.new-out.ensures.empty c.put_place_line.ensures c.finish.ensures in
+    let cause = rw c.new-out.ensures.sink at written.cause in
+    let same = puts_same _ _ _ _ c.put_place_line.ensures in
+    search rules
+
+pub returns-clause-room : goal.returns-clause-room
+returns-clause-room g c =
+    let written = finished g.K.Sink c.new-out.result c.put_place_line.new.out _ c.finish.result _ c.new-out.ensures.sound c.new-out.ensures.empty c.put_place_line.ensures c.finish.ensures in
+    rw c.new-out.ensures.sink at written.room
+
+pub returns-clause-none_after_failure : goal.returns-clause-none_after_failure
+returns-clause-none_after_failure g c =
+    let written = finished g.K.Sink c.new-out.result c.put_place_line.new.out _ c.finish.result _ c.new-out.ensures.sound c.new-out.ensures.empty c.put_place_line.ensures c.finish.ensures in
+    let stops = rw c.new-out.ensures.sink at written.stops in
+    let same = puts_same _ _ _ _ c.put_place_line.ensures in
+    search rules
