@@ -6,6 +6,7 @@ use std::sync::Wait;
 use std::test::Fail;
 use std::thread::Threads;
 
+mod calls;
 mod channels;
 mod counts;
 mod eight_linked;
@@ -17,6 +18,7 @@ mod linked;
 mod loads;
 mod payloads;
 mod refusals;
+mod relay;
 mod reports;
 mod requests;
 mod threads;
@@ -133,7 +135,7 @@ end
 ";
 
 const USAGE: &[u8] =
-    b"usage: mcrun run | run --serial | check | frame | ring | load N | run --bells\n";
+    b"usage: mcrun run | run --serial | check | frame | ring | load N | run --bells | relay | calls\n";
 
 /// What comes of an empty text.
 const REFUSED: &[u8] = b"refused 1 domain\n";

@@ -27,146 +27,144 @@ fn words_and_answers(alloc: Global, report: &[u8]) -> Result<Vec<u8>, AllocError
 /// A name, a scenario, the words and answers of its serial run, and how its report ends.
 type Case<'a> = (&'a str, Pieces<'a>, Pieces<'a>, &'a [u8]);
 
-/// 488 bytes go in one frame. A longer message goes in frames of 484, and a turn takes eight frames at most.
-const MESSAGES: Case<'static> = (
-    "messages of each number of frames",
-    &[
-        (
-            "domain 0 nodes 1 pool 17\n0.0 create 1\n0.0 create 2\n0.0 msg_send 1 0:0:2 1 ",
-            1,
-        ),
-        ("a1", 488),
-        ("\n0.0 msg_recv 2 9000\n0.0 msg_send 1 0:0:2 1 ", 1),
-        ("b2", 489),
-        ("\n0.0 msg_recv 2 9000\n0.0 msg_send 1 0:0:2 1 ", 1),
-        ("c3", 968),
-        ("\n0.0 msg_recv 2 9000\n0.0 msg_send 1 0:0:2 1 ", 1),
-        ("d4", 969),
-        ("\n0.0 msg_recv 2 4\n0.0 msg_send 1 0:0:2 1 ", 1),
-        ("e5", 8192),
-        (
-            "\n0.0 try 2 msg_recv 2 9000\n0.0 try 2 msg_recv 2 9000\n0.0 msg_send 1 0:0:2 1 ",
-            1,
-        ),
-        ("f6", 8193),
-        ("\n", 1),
-    ],
-    &[
-        ("call 1 ok 1024\ncall 2 ok 1025\n", 1),
-        ("call 3 ok\nqueued\ncall 4 ok 488 ", 1),
-        ("a1", 488),
-        ("\ncall 5 ok\npart\nqueued\ncall 6 ok 489 ", 1),
-        ("b2", 489),
-        ("\ncall 7 ok\npart\nqueued\ncall 8 ok 968 ", 1),
-        ("c3", 968),
-        (
-            "\ncall 9 ok\npart\npart\nqueued\ncall 10 truncated 969 d4d4d4d4\ncall 11 ok\n",
-            1,
-        ),
-        ("part\n", 16),
-        ("call 12 empty\nqueued\ncall 13 ok 8192 ", 1),
-        ("e5", 8192),
-        ("\ncall 14 msg_size\n", 1),
-    ],
-    b"messages accepted 5 taken 5 dropped 0 queued 0 ring 0\nlane 0 0 free 17 ring 0 queue 0 lent 0\nend\n",
-);
-
-/// All frames of a message are put, or none.
-const ALL_OR_NONE: Case<'static> = (
-    "all frames are put or none",
-    &[
-        (
-            "domain 0 nodes 1 pool 4\n0.0 create 1\n0.0 create 2\n0.0 msg_send 1 0:0:2 1 ",
-            1,
-        ),
-        ("07", 1000),
-        ("\n0.0 msg_send 1 0:0:2 1 ", 1),
-        ("07", 1000),
-        ("\n0.0 msg_send 1 0:0:2 1 ", 1),
-        ("07", 1937),
-        ("\n0.0 msg_recv 2 9000\n", 1),
-    ],
-    &[
-        (
-            "call 1 ok 1024\ncall 2 ok 1025\ncall 3 ok\npart\npart\nqueued\ncall 4 no_buffer\ncall 5 msg_size\ncall 6 ok 1000 ",
-            1,
-        ),
-        ("07", 1000),
-        ("\n", 1),
-    ],
-    b"messages accepted 1 taken 1 dropped 0 queued 0 ring 0\nlane 0 0 free 4 ring 0 queue 0 lent 0\nend\n",
-);
-
-/// The receiver of a message is deleted between its fragments, a request waits while a part grows, and a deletion drops messages.
-const DROPPED: Case<'static> = (
-    "messages of several frames are dropped, and requested",
-    &[
-        (
-            "domain 0 nodes 1 pool 17\n0.0 create 1\n0.0 create 2\n0.0 msg_send 1 0:0:2 1 ",
-            1,
-        ),
-        ("e5", 8192),
-        (
-            "\n0.0 delete 2\n0.0 turn\n0.0 turn\n0.0 create 2\n0.0 r = msg_recv_i 2 9000\n0.0 msg_send 1 0:0:2 1 ",
-            1,
-        ),
-        ("e6", 8192),
-        ("\n0.0 test r\n0.0 wait r 9\n0.0 msg_send 1 0:0:2 1 ", 1),
-        ("e7", 489),
-        ("\n0.0 msg_send 1 0:0:2 1 ", 1),
-        ("e8", 969),
-        ("\n0.0 delete 2\n", 1),
-    ],
-    &[
-        ("call 1 ok 1024\ncall 2 ok 1025\ncall 3 ok\n", 1),
-        ("part\n", 8),
-        ("call 4 ok 0\n", 1),
-        ("part\n", 8),
-        (
-            "call 5 ok\nno_endpoint\ncall 6 ok\ncall 7 ok 1026\ncall 8 ok 0\ncall 9 ok\n",
-            1,
-        ),
-        ("part\n", 8),
-        ("call 10 pending\n", 1),
-        ("part\n", 8),
-        ("handed\ncall 11 done 8192 ", 1),
-        ("e6", 8192),
-        (
-            "\ncall 12 ok\npart\nqueued\ncall 13 ok\npart\npart\nqueued\ncall 14 ok 2\n",
-            1,
-        ),
-    ],
-    b"messages accepted 4 taken 1 dropped 3 queued 0 ring 0\nlane 0 0 free 17 ring 0 queue 0 lent 0\nend\n",
-);
-
-/// A domain takes the fragments of two peers in one turn.
-const TWO_SENDERS: Case<'static> = (
-    "two senders at once",
-    &[
-        (
-            "domain 0 nodes 1 pool 2\ndomain 1 nodes 1 pool 2\ndomain 2 nodes 1 pool 2\nlink 0 1 size 4\nlink 0 2 size 4
+static CASES: [Case<'static>; 4] = [
+    // 488 bytes go in one frame. A longer message goes in frames of 484, and a turn takes eight frames at most.
+    (
+        "messages of each number of frames",
+        &[
+            (
+                "domain 0 nodes 1 pool 17\n0.0 create 1\n0.0 create 2\n0.0 msg_send 1 0:0:2 1 ",
+                1,
+            ),
+            ("a1", 488),
+            ("\n0.0 msg_recv 2 9000\n0.0 msg_send 1 0:0:2 1 ", 1),
+            ("b2", 489),
+            ("\n0.0 msg_recv 2 9000\n0.0 msg_send 1 0:0:2 1 ", 1),
+            ("c3", 968),
+            ("\n0.0 msg_recv 2 9000\n0.0 msg_send 1 0:0:2 1 ", 1),
+            ("d4", 969),
+            ("\n0.0 msg_recv 2 4\n0.0 msg_send 1 0:0:2 1 ", 1),
+            ("e5", 8192),
+            (
+                "\n0.0 try 2 msg_recv 2 9000\n0.0 try 2 msg_recv 2 9000\n0.0 msg_send 1 0:0:2 1 ",
+                1,
+            ),
+            ("f6", 8193),
+            ("\n", 1),
+        ],
+        &[
+            ("call 1 ok 1024\ncall 2 ok 1025\n", 1),
+            ("call 3 ok\nqueued\ncall 4 ok 488 ", 1),
+            ("a1", 488),
+            ("\ncall 5 ok\npart\nqueued\ncall 6 ok 489 ", 1),
+            ("b2", 489),
+            ("\ncall 7 ok\npart\nqueued\ncall 8 ok 968 ", 1),
+            ("c3", 968),
+            (
+                "\ncall 9 ok\npart\npart\nqueued\ncall 10 truncated 969 d4d4d4d4\ncall 11 ok\n",
+                1,
+            ),
+            ("part\n", 16),
+            ("call 12 empty\nqueued\ncall 13 ok 8192 ", 1),
+            ("e5", 8192),
+            ("\ncall 14 msg_size\n", 1),
+        ],
+        b"messages accepted 5 taken 5 dropped 0 queued 0 ring 0\nlane 0 0 free 17 ring 0 queue 0 lent 0\nend\n",
+    ),
+    // All frames of a message are put, or none.
+    (
+        "all frames are put or none",
+        &[
+            (
+                "domain 0 nodes 1 pool 4\n0.0 create 1\n0.0 create 2\n0.0 msg_send 1 0:0:2 1 ",
+                1,
+            ),
+            ("07", 1000),
+            ("\n0.0 msg_send 1 0:0:2 1 ", 1),
+            ("07", 1000),
+            ("\n0.0 msg_send 1 0:0:2 1 ", 1),
+            ("07", 1937),
+            ("\n0.0 msg_recv 2 9000\n", 1),
+        ],
+        &[
+            (
+                "call 1 ok 1024\ncall 2 ok 1025\ncall 3 ok\npart\npart\nqueued\ncall 4 no_buffer\ncall 5 msg_size\ncall 6 ok 1000 ",
+                1,
+            ),
+            ("07", 1000),
+            ("\n", 1),
+        ],
+        b"messages accepted 1 taken 1 dropped 0 queued 0 ring 0\nlane 0 0 free 4 ring 0 queue 0 lent 0\nend\n",
+    ),
+    // The receiver of a message is deleted between its fragments, a request waits while a part grows, and a deletion drops messages.
+    (
+        "messages of several frames are dropped, and requested",
+        &[
+            (
+                "domain 0 nodes 1 pool 17\n0.0 create 1\n0.0 create 2\n0.0 msg_send 1 0:0:2 1 ",
+                1,
+            ),
+            ("e5", 8192),
+            (
+                "\n0.0 delete 2\n0.0 turn\n0.0 turn\n0.0 create 2\n0.0 r = msg_recv_i 2 9000\n0.0 msg_send 1 0:0:2 1 ",
+                1,
+            ),
+            ("e6", 8192),
+            ("\n0.0 test r\n0.0 wait r 9\n0.0 msg_send 1 0:0:2 1 ", 1),
+            ("e7", 489),
+            ("\n0.0 msg_send 1 0:0:2 1 ", 1),
+            ("e8", 969),
+            ("\n0.0 delete 2\n", 1),
+        ],
+        &[
+            ("call 1 ok 1024\ncall 2 ok 1025\ncall 3 ok\n", 1),
+            ("part\n", 8),
+            ("call 4 ok 0\n", 1),
+            ("part\n", 8),
+            (
+                "call 5 ok\nno_endpoint\ncall 6 ok\ncall 7 ok 1026\ncall 8 ok 0\ncall 9 ok\n",
+                1,
+            ),
+            ("part\n", 8),
+            ("call 10 pending\n", 1),
+            ("part\n", 8),
+            ("handed\ncall 11 done 8192 ", 1),
+            ("e6", 8192),
+            (
+                "\ncall 12 ok\npart\nqueued\ncall 13 ok\npart\npart\nqueued\ncall 14 ok 2\n",
+                1,
+            ),
+        ],
+        b"messages accepted 4 taken 1 dropped 3 queued 0 ring 0\nlane 0 0 free 17 ring 0 queue 0 lent 0\nend\n",
+    ),
+    // A domain takes the fragments of two peers in one turn.
+    (
+        "two senders at once",
+        &[
+            (
+                "domain 0 nodes 1 pool 2\ndomain 1 nodes 1 pool 2\ndomain 2 nodes 1 pool 2\nlink 0 1 size 4\nlink 0 2 size 4
 0.0 create 1\n1.0 create 1\n2.0 create 1\n0.0 turn\n1.0 turn\n2.0 turn\n0.0 turn\n1.0 msg_send 1 0:0:1 1 ",
-            1,
-        ),
-        ("11", 1000),
-        ("\n2.0 msg_send 1 0:0:1 1 ", 1),
-        ("22", 1000),
-        ("\n0.0 msg_recv 1 9000\n0.0 msg_recv 1 9000\n", 1),
-    ],
-    &[
-        (
-            "call 1 ok 1024\ncall 2 ok\nacted\nacted\ncall 3 ok\npart\npart\nqueued\npart\npart\nqueued\ncall 4 ok 1000 ",
-            1,
-        ),
-        ("11", 1000),
-        ("\ncall 5 ok 1000 ", 1),
-        ("22", 1000),
-        (
-            "\ncall 1 ok 1024\nacted\ncall 2 ok\ncall 3 ok\ncall 1 ok 1024\nacted\ncall 2 ok\ncall 3 ok\n",
-            1,
-        ),
-    ],
-    b"messages accepted 2 taken 2 dropped 0 queued 0 ring 0
+                1,
+            ),
+            ("11", 1000),
+            ("\n2.0 msg_send 1 0:0:1 1 ", 1),
+            ("22", 1000),
+            ("\n0.0 msg_recv 1 9000\n0.0 msg_recv 1 9000\n", 1),
+        ],
+        &[
+            (
+                "call 1 ok 1024\ncall 2 ok\nacted\nacted\ncall 3 ok\npart\npart\nqueued\npart\npart\nqueued\ncall 4 ok 1000 ",
+                1,
+            ),
+            ("11", 1000),
+            ("\ncall 5 ok 1000 ", 1),
+            ("22", 1000),
+            (
+                "\ncall 1 ok 1024\nacted\ncall 2 ok\ncall 3 ok\ncall 1 ok 1024\nacted\ncall 2 ok\ncall 3 ok\n",
+                1,
+            ),
+        ],
+        b"messages accepted 2 taken 2 dropped 0 queued 0 ring 0
 lane 0 0 free 2 ring 0 queue 0 lent 0
 lane 0 1 free 4 ring 0 queue 0 lent 0
 lane 0 2 free 4 ring 0 queue 0 lent 0
@@ -176,7 +174,8 @@ lane 2 0 free 4 ring 0 queue 0 lent 0
 lane 2 2 free 2 ring 0 queue 0 lent 0
 end
 ",
-);
+    ),
+];
 
 /// Whether the report of a case has what it must, and is right.
 fn is_reported<T: Threads + Wait + Sync>(
@@ -197,19 +196,17 @@ fn is_reported<T: Threads + Wait + Sync>(
     )
 }
 
-static CASES: [&Case<'static>; 4] = [&MESSAGES, &ALL_OR_NONE, &DROPPED, &TWO_SENDERS];
-
 #[test]
 fn words_and_answers_of_large_items(rt: HostRuntime) -> Result<(), Fail> {
     for case in &CASES {
-        let (name, _, _, _) = **case;
-        assert!(rt; is_reported(&rt, rt.alloc(), **case)?, "{name}");
+        let (name, _, _, _) = *case;
+        assert!(rt; is_reported(&rt, rt.alloc(), *case)?, "{name}");
     }
     Ok(())
 }
 
 /// Packets over a link, each of which is received and released before the next is sent where there is no room for both.
-const PACKETS: Pieces<'static> = &[
+static PACKETS: Pieces<'static> = &[
     (
         "domain 0 nodes 1 pool 2
 domain 1 nodes 1 pool 2
@@ -255,7 +252,7 @@ link 0 1 size 32
 ];
 
 /// What the calls on packets answer, on one thread and on several.
-const ANSWERS: Pieces<'static> = &[
+static ANSWERS: Pieces<'static> = &[
     (
         "call 1 ok 1024
 call 2 ok 0

@@ -288,22 +288,23 @@ fn extend_by_message(text: &mut Vec<u8>, size: usize) -> Result<(), AllocError> 
     Ok(())
 }
 
-/// Sends messages of no byte, 488 and 8,193, and receives one.
+/// Sends messages of no byte, 488, 489 and 8,193, and receives one.
 fn messages_of_sizes(alloc: Global) -> Result<Vec<u8>, AllocError> {
     let mut text = Vec::from_slice(
         alloc,
         b"domain 0 nodes 1 pool 2\n0.0 create 1\n0.0 create 2\n0.0 msg_send 1 0:0:2 0 -\n",
     )?;
     extend_by_message(&mut text, 488)?;
+    extend_by_message(&mut text, 489)?;
     extend_by_message(&mut text, 8193)?;
     text.extend_from_slice(b"0.0 msg_recv 2 488\n")?;
     Ok(text)
 }
 
 const CALLS_OF_SIZES: &[u8] =
-    b"call 1 ok 1024\ncall 2 ok 1025\ncall 3 ok\ncall 4 ok\ncall 5 msg_size\ncall 6 ok 0 -\n";
+    b"call 1 ok 1024\ncall 2 ok 1025\ncall 3 ok\ncall 4 ok\ncall 5 no_buffer\ncall 6 msg_size\ncall 7 ok 0 -\n";
 
-/// A message has at most 8,192 bytes, and may have none.
+/// A message has at most 8,192 bytes, and may have none. One of 489 needs two buffers.
 #[test]
 fn sizes_of_messages(rt: HostRuntime) -> Result<(), Fail> {
     let text = messages_of_sizes(rt.alloc())?;
