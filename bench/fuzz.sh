@@ -1,6 +1,6 @@
 #!/bin/sh
-# Feeds mutated scenarios, reports, frames and images of rings to the program for SECONDS, and stops at the first input with which it
-#   ends with another status than its form has: 0 or 3 (a scenario), 0 or 1 (a report, a frame or an image);
+# Feeds mutated scenarios, reports, frames, images of rings, relays and numbered calls to the program for SECONDS, and stops at the first input with which it
+#   ends with another status than its form has: 0 or 3 (a scenario, a relay or numbered calls), 0 or 1 (a report, a frame or an image);
 #   writes what does not fit the status: each report is whole and its sums are right, each other answer is one line;
 #   runs for more than 10 seconds, or allocates more than 256 MiB.
 # It prints how many inputs were run, how many a second, and how many of each status. The input that stopped it stays in a file.
@@ -58,6 +58,8 @@ KINDS = [
     (["check"], [*reports(of_kind(".scenario"))], {0, 1}),
     (["frame"], [*of_kind(".hex"), *(f.encode() for f in FRAMES)], {0, 1}),
     (["ring"], of_kind(".image"), {0, 1}),
+    (["relay"], of_kind(".relay"), {0, 3}),
+    (["calls"], of_kind(".calls"), {0, 3}),
 ]
 NUMBERS = [b"0", b"1", b"2", b"7", b"8", b"16", b"255", b"256", b"257", b"512", b"1024", b"65535", b"65536", b"4294967295", b"4294967296",
            b"18446744073709551615", b"18446744073709551616", b"-1", b"01", b"", b"-"]
@@ -152,9 +154,9 @@ def adds_up(line):
 def fits(words, status, written, said):
     if said:
         return False
-    if words[0] == "run" and status == 0:
+    if words[0] in ("run", "relay", "calls") and status == 0:
         lines = written.split(b"\n")
-        return lines[0] == b"mcapi-report 1 serial" and lines[-2:] == [b"end", b""] and all(adds_up(line) for line in lines)
+        return lines[0] == (b"mcapi-report 1 serial" if words[0] == "run" else b"mcapi-report 1 threads") and lines[-2:] == [b"end", b""] and all(adds_up(line) for line in lines)
     if words[0] == "check" and status == 0:
         return written == b"right\n"
     front = b"refused " if status == 3 else b"wrong " if status == 1 else b"right "
