@@ -1,7 +1,7 @@
 # Explains a refusal of mcrun by the tables and forms of docs/FORMATS.md:
-#   awk -v answer='refused 5 form' -v earlier='2 3' -f scripts/explain.awk docs/FORMATS.md INPUT
-# The answer is the program's line: `refused LINE REASON` of a scenario, `wrong LINE REASON` of a report, or `wrong PLACE REASON` of a
-# frame or an image. `earlier` has the lines of a scenario that were refused before this one: what follows from them alone is not
+#   awk -v answer='refused 5 form' -v earlier='2 3' [-v of=relay|calls] -f scripts/explain.awk docs/FORMATS.md INPUT
+# The answer is the program's line: `refused LINE REASON` of a scenario, or of a text for actors where `of` names its form, `wrong LINE REASON` of a report, or
+# `wrong PLACE REASON` of a frame or an image. `earlier` has the lines of a scenario that were refused before this one: what follows from them alone is not
 # explained again.
 
 BEGIN {
@@ -15,7 +15,7 @@ BEGIN {
 
 # Of the document, the rows of the tables of reasons, faults and calls, the forms of lines, and the ranges of numbers.
 FNR == 1 { file++ }
-file == 1 && /^## / { scenarios = ($0 == "## Scenario files") }
+file == 1 && /^## / { section = substr($0, 4); scenarios = (section == "Scenario files") }
 file == 1 && /^```/ { in_block = !in_block }
 file == 1 && in_block && scenarios && /^[a-zD]/ {
     shape[$1] = $0
@@ -30,7 +30,10 @@ file == 1 && /^[|]/ {
     split($0, column, " *[|] *")
     if (table == "") table = column[2]
     key = unquoted(column[2])
-    if (table == "reason" || table == "fault") meaning[key] = unquoted(column[3])
+    if (table == "reason" && section == "Text of a relay") actors_meaning["relay", key] = unquoted(column[3])
+    else if (table == "reason" && section == "Text of numbered calls") actors_meaning["calls", key] = unquoted(column[3])
+    else if (table == "reason" && section != "Scenario files") ;
+    else if (table == "reason" || table == "fault") meaning[key] = unquoted(column[3])
     if (table == "pass") verdict[unquoted(column[3])] = unquoted(column[4])
     if (table == "call, arguments" && column[2] ~ /^`/) {
         split(key, word, " ")
@@ -56,6 +59,7 @@ END {
     sub(/\r$/, "", line)
     if (refusal[1] == "wrong" && reason in verdict) report()
     else if (refusal[1] == "wrong") wrong()
+    else if (refusal[1] == "refused" && of != "") actors()
     else if (refusal[1] == "refused") scenario()
 }
 
@@ -89,6 +93,13 @@ function report() {
     if (there_is_line) say("line " at_line ": " substr(line, 1, 160))
     else say("line " at_line ": the text ends before it")
     say(reason ": " verdict[reason])
+}
+
+# A relay, or numbered calls.
+function actors() {
+    if (there_is_line) say("line " at_line ": " substr(line, 1, 160))
+    else say("line " at_line ": the text ends before it")
+    say(reason ": " actors_meaning[of, reason])
 }
 
 # A frame or an image.
