@@ -44,7 +44,7 @@ pub fn write_report<K: Sink>(
     ensures bytes { Writes (K.written sink.old) (K.written sink.new) result (outcome_report (mode_of threads) scenario.now outcome.now) }
     ensures cause { HasCause (K.faults sink.old) (K.faults sink.new) result }
     ensures room { (n : ℕ) → K.takes sink.old n → length (outcome_report (mode_of threads) scenario.now outcome.now) ≤ n → IsOk result }
-    ensures none_after_failure { OnErr result (WritesStop (K.written sink.old) (K.written sink.new) (K.calls sink.old) (K.calls sink.new) (outcome_report (mode_of threads) scenario.now outcome.now)) }
+    ensures few_writes_at_err { OnErr result (WritesStop (K.written sink.old) (K.written sink.new) (K.calls sink.old) (K.calls sink.new) (outcome_report (mode_of threads) scenario.now outcome.now)) }
 {
     let mut out = Writer::new(sink);
     put_report(&mut out, scenario, outcome, threads);

@@ -19,7 +19,7 @@ pub fn write_entry<K: Sink>(entry: &Entry<'_>, sink: &mut K) -> Result<(), Faile
     ensures bytes { Writes (K.written sink.old) (K.written sink.new) result (entry_text entry.now) }
     ensures cause { HasCause (K.faults sink.old) (K.faults sink.new) result }
     ensures room { (n : ℕ) → K.takes sink.old n → length (entry_text entry.now) ≤ n → IsOk result }
-    ensures none_after_failure { OnErr result (WritesStop (K.written sink.old) (K.written sink.new) (K.calls sink.old) (K.calls sink.new) (entry_text entry.now)) }
+    ensures few_writes_at_err { OnErr result (WritesStop (K.written sink.old) (K.written sink.new) (K.calls sink.old) (K.calls sink.new) (entry_text entry.now)) }
 {
     let mut out = Writer::new(sink);
     put_entry(&mut out, *entry);

@@ -44,7 +44,7 @@ pub fn write_all<K: Sink>(sink: &mut K, piece: &[u8]) -> Result<(), Failed>
     ensures cause { HasCause (K.faults sink.old) (K.faults sink.new) result }
     // Each write appends one byte at least, so no more writes are made than there are bytes.
     ensures few_writes { OnOk result (CountsAtMost (K.calls sink.old) (K.calls sink.new) (length piece.now)) }
-    ensures none_after_failure { OnErr result (WritesStop (K.written sink.old) (K.written sink.new) (K.calls sink.old) (K.calls sink.new) piece.now) }
+    ensures few_writes_at_err { OnErr result (WritesStop (K.written sink.old) (K.written sink.new) (K.calls sink.old) (K.calls sink.new) piece.now) }
     ensures room { (n : ℕ) → K.takes sink.old n → length piece.now ≤ n → IsOk result × K.takes sink.new (n - length piece.now) }
     ensures empty { piece.now ≡ [] → IsOk result × (sink.new ≡ sink.old) }
 {

@@ -79,7 +79,7 @@ pub fn read_all<S: Source>(
     ensures no_fault { (IsErrOf result ReadFault.Failed → ⊥) → S.faults source.new ≡ S.faults source.old }
     ensures reads { CountsAtMost (S.calls source.old) (S.calls source.new) (limit + 1) }
     ensures few_reads { IfOk result (λ v. CountsAtMost (S.calls source.old) (S.calls source.new) (length v.items + 1)) }
-    ensures none_after_failure { IsErrOf result ReadFault.Failed → ReadsStop (S.rest source.old) (S.rest source.new) (S.calls source.old) (S.calls source.new) limit }
+    ensures few_reads_at_err { IsErrOf result ReadFault.Failed → ReadsStop (S.rest source.old) (S.rest source.new) (S.calls source.old) (S.calls source.new) limit }
     ensures none_after_end { MatchResult result (λ _. CountsOne (S.ends source.old) (S.ends source.new)) (λ _. S.ends source.new ≡ S.ends source.old) }
 {
     let mut bytes = Vec::new(alloc);

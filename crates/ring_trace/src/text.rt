@@ -22,7 +22,7 @@ pub fn write_image<K: Sink>(closed: &Closed, sink: &mut K) -> Result<(), Failed>
     ensures bytes { Writes (K.written sink.old) (K.written sink.new) result (hex_digits (word_image closed.now.size closed.now.words)) }
     ensures cause { HasCause (K.faults sink.old) (K.faults sink.new) result }
     ensures room { (n : ℕ) → K.takes sink.old n → length (hex_digits (word_image closed.now.size closed.now.words)) ≤ n → IsOk result }
-    ensures none_after_failure { OnErr result (WritesStop (K.written sink.old) (K.written sink.new) (K.calls sink.old) (K.calls sink.new) (hex_digits (word_image closed.now.size closed.now.words))) }
+    ensures few_writes_at_err { OnErr result (WritesStop (K.written sink.old) (K.written sink.new) (K.calls sink.old) (K.calls sink.new) (hex_digits (word_image closed.now.size closed.now.words))) }
 {
     let mut out = Writer::new(sink);
     put_image(&mut out, closed);

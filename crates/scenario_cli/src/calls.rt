@@ -74,7 +74,7 @@ fn write_calls<K: Sink>(
     ensures bytes { Writes (K.written output.old) (K.written output.new) result (calls_report clients scenario.now outcome.now actors.now) }
     ensures cause { HasCause (K.faults output.old) (K.faults output.new) result }
     ensures room { (n : ℕ) → K.takes output.old n → length (calls_report clients scenario.now outcome.now actors.now) ≤ n → IsOk result }
-    ensures none_after_failure { OnErr result (WritesStop (K.written output.old) (K.written output.new) (K.calls output.old) (K.calls output.new) (calls_report clients scenario.now outcome.now actors.now)) }
+    ensures few_writes_at_err { OnErr result (WritesStop (K.written output.old) (K.written output.new) (K.calls output.old) (K.calls output.new) (calls_report clients scenario.now outcome.now actors.now)) }
 {
     let mut out = Writer::new(output);
     put_report(&mut out, scenario, outcome, true);

@@ -71,7 +71,7 @@ fn write_load<K: Sink>(packets: u32, outcome: &Outcome, output: &mut K) -> Resul
     ensures bytes { Writes (K.written output.old) (K.written output.new) result (load_report packets) }
     ensures cause { HasCause (K.faults output.old) (K.faults output.new) result }
     ensures room { (n : ℕ) → K.takes output.old n → length (load_report packets) ≤ n → IsOk result }
-    ensures none_after_failure { OnErr result (WritesStop (K.written output.old) (K.written output.new) (K.calls output.old) (K.calls output.new) (load_report packets)) }
+    ensures few_writes_at_err { OnErr result (WritesStop (K.written output.old) (K.written output.new) (K.calls output.old) (K.calls output.new) (load_report packets)) }
 {
     let mut out = Writer::new(output);
     put_load(&mut out, packets, outcome);

@@ -22,7 +22,7 @@ pub fn write_place_line<K: Sink>(
     ensures bytes { Writes (K.written sink.old) (K.written sink.new) result (place_line word.now place reason.now) }
     ensures cause { HasCause (K.faults sink.old) (K.faults sink.new) result }
     ensures room { (n : ℕ) → K.takes sink.old n → length (place_line word.now place reason.now) ≤ n → IsOk result }
-    ensures none_after_failure { OnErr result (WritesStop (K.written sink.old) (K.written sink.new) (K.calls sink.old) (K.calls sink.new) (place_line word.now place reason.now)) }
+    ensures few_writes_at_err { OnErr result (WritesStop (K.written sink.old) (K.written sink.new) (K.calls sink.old) (K.calls sink.new) (place_line word.now place reason.now)) }
 {
     let mut out = Writer::new(sink);
     put_place_line(&mut out, word, place, reason);

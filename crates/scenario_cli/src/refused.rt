@@ -19,7 +19,7 @@ pub fn write_refusal<K: Sink>(line: u32, reason: &[u8], output: &mut K) -> Resul
     ensures bytes { Writes (K.written output.old) (K.written output.new) result (refused_text line reason.now) }
     ensures cause { HasCause (K.faults output.old) (K.faults output.new) result }
     ensures room { (n : ℕ) → K.takes output.old n → length (refused_text line reason.now) ≤ n → IsOk result }
-    ensures none_after_failure { OnErr result (WritesStop (K.written output.old) (K.written output.new) (K.calls output.old) (K.calls output.new) (refused_text line reason.now)) }
+    ensures few_writes_at_err { OnErr result (WritesStop (K.written output.old) (K.written output.new) (K.calls output.old) (K.calls output.new) (refused_text line reason.now)) }
 {
     write_place_line(b"refused", line as u64, reason, output)
 }

@@ -17,7 +17,7 @@ pub fn write_wrong<K: Sink>(place: usize, reason: &[u8], sink: &mut K) -> Result
     ensures bytes { Writes (K.written sink.old) (K.written sink.new) result (wrong_line place reason.now) }
     ensures cause { HasCause (K.faults sink.old) (K.faults sink.new) result }
     ensures room { (n : ℕ) → K.takes sink.old n → length (wrong_line place reason.now) ≤ n → IsOk result }
-    ensures none_after_failure { OnErr result (WritesStop (K.written sink.old) (K.written sink.new) (K.calls sink.old) (K.calls sink.new) (wrong_line place reason.now)) }
+    ensures few_writes_at_err { OnErr result (WritesStop (K.written sink.old) (K.written sink.new) (K.calls sink.old) (K.calls sink.new) (wrong_line place reason.now)) }
 {
     write_place_line(b"wrong", place as u64, reason, sink)
 }

@@ -22,7 +22,7 @@ pub fn write_right<K: Sink>(content: Content<'_>, sink: &mut K) -> Result<(), Fa
     ensures bytes { Writes (K.written sink.old) (K.written sink.new) result (content_line content.entry) }
     ensures cause { HasCause (K.faults sink.old) (K.faults sink.new) result }
     ensures room { (n : ℕ) → K.takes sink.old n → length (content_line content.entry) ≤ n → IsOk result }
-    ensures none_after_failure { OnErr result (WritesStop (K.written sink.old) (K.written sink.new) (K.calls sink.old) (K.calls sink.new) (content_line content.entry)) }
+    ensures few_writes_at_err { OnErr result (WritesStop (K.written sink.old) (K.written sink.new) (K.calls sink.old) (K.calls sink.new) (content_line content.entry)) }
 {
     let mut out = Writer::new(sink);
     put_right(&mut out, content);

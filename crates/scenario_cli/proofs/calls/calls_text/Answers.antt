@@ -24,7 +24,7 @@ returns-in-Ok-run_calls g c =
     let ran = rw c.deref.ensures.value at c.in-Ok-run_calls.ensures in
     let left = subst (λ (xs : List CallActor). IsCallsOutcome (asked_by calls) calls.size s o xs) (sym c.deref-in-Ok-run_calls.ensures.value) ran in
     write-tells g.K.Sink c.args.output.now c.write_calls.new.output (calls_report calls.clients s o actors) Calls good text (calls-reported text calls s o actors told (may-be-asked calls c.in-Ok.ensures.fit) left) (calls-not-refused text calls told) c.write_calls.result c.after_write.result c.after_write.ensures.whole c.after_write.ensures.failed
-    (record { bytes = c.write_calls.ensures.bytes; cause = c.write_calls.ensures.cause; room = c.write_calls.ensures.room; last = c.write_calls.ensures.none_after_failure })
+    (record { bytes = c.write_calls.ensures.bytes; cause = c.write_calls.ensures.cause; room = c.write_calls.ensures.room; last = c.write_calls.ensures.few_writes_at_err })
 
 pub returns-in-Ok : goal.returns-in-Ok
 returns-in-Ok g c = memory-tells _ _ _ _

@@ -28,8 +28,8 @@ returns-clause-room g c =
     let written = finished g.K.Sink c.new-out.result c.put_calls.new.out _ c.finish.result _ c.new-out.ensures.sound c.new-out.ensures.empty puts c.finish.ensures in
     rw c.new-out.ensures.sink at written.room
 
-pub returns-clause-none_after_failure : goal.returns-clause-none_after_failure
-returns-clause-none_after_failure g c =
+pub returns-clause-few_writes_at_err : goal.returns-clause-few_writes_at_err
+returns-clause-few_writes_at_err g c =
     let puts = puts-report g.K.Sink _ _ _ c.args.clients c.args.scenario.now c.args.outcome.now c.args.actors.now c.put_report.ensures c.put_calls.ensures in
     let written = finished g.K.Sink c.new-out.result c.put_calls.new.out _ c.finish.result _ c.new-out.ensures.sound c.new-out.ensures.empty puts c.finish.ensures in
     let stops = rw c.new-out.ensures.sink at written.stops in

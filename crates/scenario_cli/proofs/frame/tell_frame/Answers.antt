@@ -16,7 +16,7 @@ returns-in-Err-At g c =
     let line = wrong_line c.in-Err-At.place (codes "hex") in
     let told : wrong_in c.args.text.now ≡ Some line = hex_wrong c.args.text.now c.in-Err-At.place (rw c.in-Err-At.field-0-is at c.in-Err-At.ensures.fault) in
     write-tells g.K.Sink c.args.output.now c.write_wrong.new.sink line Frame bad c.args.text.now told (none_wrong c.args.text.now line told) c.write_wrong.result c.after_write.result c.after_write.ensures.whole c.after_write.ensures.failed
-    (record { bytes = c.write_wrong.ensures.bytes; cause = c.write_wrong.ensures.cause; room = c.write_wrong.ensures.room; last = c.write_wrong.ensures.none_after_failure })
+    (record { bytes = c.write_wrong.ensures.bytes; cause = c.write_wrong.ensures.cause; room = c.write_wrong.ensures.room; last = c.write_wrong.ensures.few_writes_at_err })
 
 pub returns-in-Err-NoMemory : goal.returns-in-Err-NoMemory
 returns-in-Err-NoMemory g c = memory-tells _ _ _ _

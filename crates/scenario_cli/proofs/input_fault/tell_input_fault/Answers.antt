@@ -11,7 +11,7 @@ returns-in-Refused-clause-relay g c = λ text is.
     let refused = rw c.in-Refused.is at is in
     let bytes = rw c.input_reason_word.ensures at c.write_refusal-written.ensures.bytes in
     let room = rw c.input_reason_word.ensures at c.write_refusal-written.ensures.room in
-    let last = rw c.input_reason_word.ensures at c.write_refusal-written.ensures.none_after_failure in
+    let last = rw c.input_reason_word.ensures at c.write_refusal-written.ensures.few_writes_at_err in
     write-tells g.K.Sink c.args.output.now c.write_refusal-written.new.output _ Relay bad text (record { line = _; refused = refused; written = refl }) (refused-no-relay text _ refused) c.write_refusal-written.result c.after_write.result c.after_write.ensures.whole c.after_write.ensures.failed
     (record { bytes = bytes; cause = c.write_refusal-written.ensures.cause; room = room; last = last })
 
@@ -20,7 +20,7 @@ returns-in-Refused-clause-calls g c = λ text is.
     let refused = rw c.in-Refused.is at is in
     let bytes = rw c.input_reason_word.ensures at c.write_refusal-written.ensures.bytes in
     let room = rw c.input_reason_word.ensures at c.write_refusal-written.ensures.room in
-    let last = rw c.input_reason_word.ensures at c.write_refusal-written.ensures.none_after_failure in
+    let last = rw c.input_reason_word.ensures at c.write_refusal-written.ensures.few_writes_at_err in
     write-tells g.K.Sink c.args.output.now c.write_refusal-written.new.output _ Calls bad text (record { line = _; refused = refused; written = refl }) (refused-no-calls text _ refused) c.write_refusal-written.result c.after_write.result c.after_write.ensures.whole c.after_write.ensures.failed
     (record { bytes = bytes; cause = c.write_refusal-written.ensures.cause; room = room; last = last })
 

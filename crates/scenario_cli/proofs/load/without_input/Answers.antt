@@ -18,7 +18,7 @@ returns-in-Some-clause-usage_words g c = λ is. absurd (c.run_load.ensures.not_u
 pub returns-in-None-clause-unread : goal.returns-in-None-clause-unread
 returns-in-None-clause-unread g c =
     unread-of g.K.Sink c.args.output.now c.write_all.new.sink usage_text c.write_all.result c.after_write.result 2 c.after_write.ensures.whole c.after_write.ensures.failed (inr (inl refl))
-    (record { bytes = c.write_all.ensures.bytes; cause = c.write_all.ensures.cause; room = λ n takes fits. (c.write_all.ensures.room n takes fits).0; last = c.write_all.ensures.none_after_failure })
+    (record { bytes = c.write_all.ensures.bytes; cause = c.write_all.ensures.cause; room = λ n takes fits. (c.write_all.ensures.room n takes fits).0; last = c.write_all.ensures.few_writes_at_err })
 
 pub returns-in-None-clause-load : goal.returns-in-None-clause-load
 returns-in-None-clause-load g c = λ packets is. absurd (c.in-None.ensures.none refl packets is)
@@ -26,7 +26,7 @@ returns-in-None-clause-load g c = λ packets is. absurd (c.in-None.ensures.none 
 pub returns-in-None-clause-usage : goal.returns-in-None-clause-usage
 returns-in-None-clause-usage g c = λ none.
     text-writes g.K.Sink c.args.output.now c.write_all.new.sink usage_text c.write_all.result c.after_write.result 2 c.after_write.ensures.whole c.after_write.ensures.failed (λ e. omega (arith, e))
-    (record { bytes = c.write_all.ensures.bytes; cause = c.write_all.ensures.cause; room = λ n takes fits. (c.write_all.ensures.room n takes fits).0; last = c.write_all.ensures.none_after_failure })
+    (record { bytes = c.write_all.ensures.bytes; cause = c.write_all.ensures.cause; room = λ n takes fits. (c.write_all.ensures.room n takes fits).0; last = c.write_all.ensures.few_writes_at_err })
 
 pub returns-in-None-clause-usage_words : goal.returns-in-None-clause-usage_words
 returns-in-None-clause-usage_words g c = λ is. c.in-None.ensures.none refl

@@ -15,7 +15,7 @@ returns-in-Ok-run_relay g c =
     let s = c.in-Ok-run_relay.scenario in
     let o = c.in-Ok-run_relay.outcome in
     write-tells g.K.Sink c.args.output.now c.write_report.new.sink (outcome_report threads s o) Relay good text (relay-reported text relay s o c.in-Ok.ensures.told c.in-Ok.ensures.fit.some_hops c.in-Ok-run_relay.ensures) (relay-not-refused text relay c.in-Ok.ensures.told) c.write_report.result c.after_write.result c.after_write.ensures.whole c.after_write.ensures.failed
-    (record { bytes = c.write_report.ensures.bytes; cause = c.write_report.ensures.cause; room = c.write_report.ensures.room; last = c.write_report.ensures.none_after_failure })
+    (record { bytes = c.write_report.ensures.bytes; cause = c.write_report.ensures.cause; room = c.write_report.ensures.room; last = c.write_report.ensures.few_writes_at_err })
 
 pub returns-in-Err-run_relay : goal.returns-in-Err-run_relay
 returns-in-Err-run_relay g c = memory-tells _ _ _ _

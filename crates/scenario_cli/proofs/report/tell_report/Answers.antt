@@ -20,7 +20,7 @@ returns-in-Ok-Right g c =
     let right : verdict_on c.args.report.now ≡ Right = sym c.in-Ok-Right.ensures ∙ c.in-Ok-Right.field-0-is in
     write-tells g.K.Sink c.args.output.now c.write_all.new.sink (verdict_line Right) Check good c.args.report.now (record { right = right; of_run = right_is_of_run c.args.report.now (omega (arith, few)) right; written = refl }) (λ wrong. either _ wrong.0.0 wrong.0.1 right wrong.1) c.write_all.result c.after_write.result
     c.after_write.ensures.whole c.after_write.ensures.failed
-    (record { bytes = c.write_all.ensures.bytes; cause = c.write_all.ensures.cause; room = λ n takes fits. (c.write_all.ensures.room n takes fits).0; last = c.write_all.ensures.none_after_failure })
+    (record { bytes = c.write_all.ensures.bytes; cause = c.write_all.ensures.cause; room = λ n takes fits. (c.write_all.ensures.room n takes fits).0; last = c.write_all.ensures.few_writes_at_err })
 
 pub returns-in-Ok-Wrong : goal.returns-in-Ok-Wrong
 returns-in-Ok-Wrong g c =
@@ -30,7 +30,7 @@ returns-in-Ok-Wrong g c =
     let wrong : verdict_on c.args.report.now ≡ Wrong line reason = sym c.in-Ok-Wrong.ensures ∙ c.in-Ok-Wrong.field-0-is in
     let bytes = rw c.reason_word.ensures at c.write_wrong-written.ensures.bytes in
     let room = rw c.reason_word.ensures at c.write_wrong-written.ensures.room in
-    let last = rw c.reason_word.ensures at c.write_wrong-written.ensures.none_after_failure in
+    let last = rw c.reason_word.ensures at c.write_wrong-written.ensures.few_writes_at_err in
     write-tells g.K.Sink c.args.output.now c.write_wrong-written.new.sink (verdict_line (Wrong line reason)) Check bad c.args.report.now (record { wrong = (line, reason); is = wrong; explained = reasons-of-runs c.args.report.now line reason (omega (arith, few)) wrong; written = refl }) (λ right. either _ line reason right wrong)
     c.write_wrong-written.result c.after_write-in-Ok-Wrong.result c.after_write-in-Ok-Wrong.ensures.whole c.after_write-in-Ok-Wrong.ensures.failed
     (record { bytes = bytes; cause = c.write_wrong-written.ensures.cause; room = room; last = last })

@@ -11,7 +11,7 @@ returns-in-Refused g c = λ mode text is.
     let refused = rw c.in-Refused.is at is in
     let bytes = rw c.line_reason_word.ensures at c.write_refusal-written.ensures.bytes in
     let room = rw c.line_reason_word.ensures at c.write_refusal-written.ensures.room in
-    let last = rw c.line_reason_word.ensures at c.write_refusal-written.ensures.none_after_failure in
+    let last = rw c.line_reason_word.ensures at c.write_refusal-written.ensures.few_writes_at_err in
     write-tells g.K.Sink c.args.output.now c.write_refusal-written.new.output _ (run_in mode) bad text (as-refusal mode text _ (record { line = _; refused = refused; written = refl })) (no-scenario mode text _ refused) c.write_refusal-written.result c.after_write.result
     (subst (λ n. OnOk c.write_refusal-written.result (c.after_write.result ≡ n)) (sym (refused-status mode)) c.after_write.ensures.whole) c.after_write.ensures.failed
     (record { bytes = bytes; cause = c.write_refusal-written.ensures.cause; room = room; last = last })

@@ -15,7 +15,7 @@ returns-in-Ok g c = λ text told.
     let output = outcome_report mode s c.in-Ok.outcome in
     let report = reported_of mode text output s told (left-reported mode s c.in-Ok.outcome c.requires.lawful left) in
     write-tells g.K.Sink c.args.output.now c.write_report.new.sink output (run_in mode) good text (as-report mode text output report) (no-refusal mode text s told) c.write_report.result c.after_write.result c.after_write.ensures.whole c.after_write.ensures.failed
-    (record { bytes = c.write_report.ensures.bytes; cause = c.write_report.ensures.cause; room = c.write_report.ensures.room; last = c.write_report.ensures.none_after_failure })
+    (record { bytes = c.write_report.ensures.bytes; cause = c.write_report.ensures.cause; room = c.write_report.ensures.room; last = c.write_report.ensures.few_writes_at_err })
 
 pub returns-in-Err : goal.returns-in-Err
 returns-in-Err g c = λ text told. memory-tells _ _ text _

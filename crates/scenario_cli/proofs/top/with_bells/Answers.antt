@@ -26,7 +26,7 @@ returns-in-Ok-clause-ends g c =
 
 pub returns-in-Err-clause-answers : goal.returns-in-Err-clause-answers
 returns-in-Err-clause-answers g c =
-    rw c.after_read.ensures (fault-answers g.S.Source g.K.Sink Run _ _ _ c.in-Err.ended (λ e. rw c.limit.ensures at (c.in-Err.ensures.none_after_failure (ap Err e))) (λ e. rw c.limit.ensures at (c.in-Err.ensures.too_long (ap Err e))))
+    rw c.after_read.ensures (fault-answers g.S.Source g.K.Sink Run _ _ _ c.in-Err.ended (λ e. rw c.limit.ensures at (c.in-Err.ensures.few_reads_at_err (ap Err e))) (λ e. rw c.limit.ensures at (c.in-Err.ensures.too_long (ap Err e))))
 
 pub returns-in-Err-clause-ends : goal.returns-in-Err-clause-ends
 returns-in-Err-clause-ends g c =

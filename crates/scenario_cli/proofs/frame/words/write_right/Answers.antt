@@ -21,8 +21,8 @@ returns-clause-room g c =
     let written = finished g.K.Sink c.new-out.result c.put_right.new.out _ c.finish.result _ c.new-out.ensures.sound c.new-out.ensures.empty c.put_right.ensures c.finish.ensures in
     rw c.new-out.ensures.sink at written.room
 
-pub returns-clause-none_after_failure : goal.returns-clause-none_after_failure
-returns-clause-none_after_failure g c =
+pub returns-clause-few_writes_at_err : goal.returns-clause-few_writes_at_err
+returns-clause-few_writes_at_err g c =
     let written = finished g.K.Sink c.new-out.result c.put_right.new.out _ c.finish.result _ c.new-out.ensures.sound c.new-out.ensures.empty c.put_right.ensures c.finish.ensures in
     let stops = rw c.new-out.ensures.sink at written.stops in
     let same = puts_same _ _ _ _ c.put_right.ensures in
