@@ -112,7 +112,7 @@ impl Ring {
 
 /// The length of a buffer in a round, which differs from round to round.
 fn length(round: u32, number: u16) -> u32 {
-    round.wrapping_add(number as u32) % 512
+    round.wrapping_add(number as u32) % 64
 }
 
 fn one(ring: &Ring, driver: &mut Half, device: &mut Half, mut buffers: Vec<Buffer>, rounds: u32) {

@@ -2,7 +2,7 @@
 -- Source: docs/FORMATS.md, "Scenario files".
 use Rattle.std.specs.Prelude.{◌≡◌, ◌⊎◌, ℕ, ◌*◌, ◌≤◌, ◌<◌, ◌^◌, List, [], ◌∷◌, map, length, Contains}
 use Rattle.std.specs.List.{AllByRecursion}
-use Rattle.mc_base.specs.Limits.{asked_limit, longest_frame, try_limit, last_domain, last_node, ring_limit, last_priority}
+use Rattle.mc_base.specs.Limits.{asked_limit, longest_frame, try_limit, last_domain, last_node, link_limit, last_priority}
 use Rattle.mc_base.specs.Letter.{bytes_of_bits}
 use Rattle.board_model.specs.declared.scenario.LinkLine.{LinkLine}
 use Rattle.board_model.specs.declared.scenario.Call.{Call}
@@ -26,7 +26,7 @@ pub record Joins (s : Scenario) (l : LinkLine) : Type 0 where
   pub device_told : IsTold s l.device
   pub two_domains : l.driver ≡ l.device → ⊥
   pub some_buffers : 1 ≤ l.size
-  pub buffers_fit : l.size ≤ ring_limit
+  pub buffers_fit : l.size ≤ link_limit
 
 -- two links of one pair, whichever of the two is the driver
 abbrev pub IsSamePair : LinkLine → LinkLine → Type 0

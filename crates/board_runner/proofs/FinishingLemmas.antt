@@ -32,9 +32,9 @@ use Rattle.board_runner.specs.ThreadRun.{WasFinished}
 
 -- ---- a finished ring is of its queue and size
 
-pub finished-is : (ring : TableShown) (send : SendHalf) (recv : RecvHalf) (closed : FinishedRing) → AreFinished ring send recv closed → (closed.queue ≡ ring.queue) × (closed.size ≡ size_of ring.ring)
-finished-is ring (sent.Driver h) (received.Device g) closed finished = (finished.queue, finished.size)
-finished-is ring (sent.Device h) (received.Driver g) closed finished = (finished.queue, finished.size)
+pub finished-is : (ring : TableShown) (send : SendHalf) (recv : RecvHalf) (closed : FinishedRing) → AreFinished ring send recv closed → (closed.queue ≡ ring.queue) × (closed.size ≡ size_of ring.ring) × (closed.width ≡ ring.ring.width)
+finished-is ring (sent.Driver h) (received.Device g) closed finished = (finished.queue, finished.size, finished.width)
+finished-is ring (sent.Device h) (received.Driver g) closed finished = (finished.queue, finished.size, finished.width)
 finished-is ring (sent.Driver h) (received.Driver g) closed finished = absurd finished
 finished-is ring (sent.Device h) (received.Device g) closed finished = absurd finished
 
@@ -218,11 +218,13 @@ module _ (moves : BoardMoves) (l : LinkLine) (on : LinkRings) (old mid new : Lis
       record {
         queue0 = is0.0;
         size0 = is0.1;
+        width0 = is0.2;
         finished0 = zero-finished on.queue0 back.send there.recv first closed0;
         was0 = record { send = back.send; recv = there.recv; ran = run-zero; finished = closed0 };
         run0 = runs0 Device (sends (moves l.device l.driver)) (receives (moves l.driver l.device)) run-zero;
         queue1 = is1.0;
         size1 = is1.1;
+        width1 = is1.2;
         finished1 = one-finished law on.queue1 (sends (moves l.driver l.device)) (receives (moves l.device l.driver)) there.send back.recv last run-one closed1;
         was1 = record { send = there.send; recv = back.recv; ran = run-one; finished = closed1 };
         run1 = runs1 Driver (sends (moves l.driver l.device)) (receives (moves l.device l.driver)) run-one;

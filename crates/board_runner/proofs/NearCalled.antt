@@ -90,8 +90,8 @@ gives_all (n ∷ ns) = ap (λ (ms : List ℕ). n ∷ ms) (gives_all ns)
 ring-got : (ns : List ℕ) (r r' : RingReceiver) → RingReceives r (receives (giving ns)) r' → GotCalled (length ns) (got_by r) (got_by r')
 ring-got ns r r' moved = record {
   taken = sym (loads-frames r'.half.taken) ∙ ap contents (moved.taken ∙ ap (λ (fs : List (ℕ × List ℕ)). taken_by r ++ fs) (gives_take_none ns) ∙ append-nil (taken_by r)) ∙ loads-frames r.half.taken;
-  given = let a = ap length moved.given in let b = length-append (given_by r) (with_lengths r.role (numbers_given (receives (giving ns)))) in let c = length-map (given_entries r) return_in in let d = length-map (given_entries r') return_in in
-      let e : length (with_lengths r.role (numbers_given (receives (giving ns)))) ≡ length (numbers_given (receives (giving ns))) = length-map (numbers_given (receives (giving ns))) (λ (n : ℕ). (n, given_length r.role)) in let f = ap length (gives_all ns) in omega (arith, a, b, c, d, e, f);
+  given = let a = ap length moved.given in let b = length-append (given_by r) (with_lengths r.role r.half.ring (numbers_given (receives (giving ns)))) in let c = length-map (given_entries r) return_in in let d = length-map (given_entries r') return_in in
+      let e : length (with_lengths r.role r.half.ring (numbers_given (receives (giving ns)))) ≡ length (numbers_given (receives (giving ns))) = length-map (numbers_given (receives (giving ns))) (λ (n : ℕ). (n, given_length r.role r.half.ring)) in let f = ap length (gives_all ns) in omega (arith, a, b, c, d, e, f);
   grows = moved.known;
 }
 

@@ -171,10 +171,10 @@ ring-taken see ms r r' moved frames taken =
 ring-given : (see : ℕ) (ms : List ReceiveMove) (r r' : RingReceiver) → RingReceives r (receiving.Looked see ∷ ms) r' → (got_by r').given ≡ (got_by r).given + length (numbers_given ms)
 ring-given see ms r r' moved =
     let a = ap length moved.given in
-    let b = length-append (given_by r) (with_lengths r.role (numbers_given ms)) in
+    let b = length-append (given_by r) (with_lengths r.role r.half.ring (numbers_given ms)) in
     let c = length-map (given_entries r) return_in in
     let d = length-map (given_entries r') return_in in
-    let e : length (with_lengths r.role (numbers_given ms)) ≡ length (numbers_given ms) = length-map (numbers_given ms) (λ (n : ℕ). (n, given_length r.role)) in
+    let e : length (with_lengths r.role r.half.ring (numbers_given ms)) ≡ length (numbers_given ms) = length-map (numbers_given ms) (λ (n : ℕ). (n, given_length r.role r.half.ring)) in
     omega (arith, a, b, c, d, e)
 
 any-got : (see : ℕ) (ms : List ReceiveMove) (ts : List Taken) (r r' : AnyRecv) → IsRingRecv r → contents (frames_taken ms) ≡ frames_of ts → AnyReceives r (receiving.Looked see ∷ ms) r' → GotVisited see ts (length (numbers_given ms)) (got_near r) (got_near r')

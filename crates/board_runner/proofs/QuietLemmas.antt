@@ -96,7 +96,7 @@ module _ (ms : List LaneMove) (none : PartsNone ms) where
   ring_receives : (r q : RingReceiver) → RingReceives r (receives ms) q → GotStays (got_by r) (got_by q)
   ring_receives r q moved = record {
     taken = sym (loads-frames q.half.taken) ∙ ap contents (moved.taken ∙ ap (λ (fs : List (ℕ × List ℕ)). taken_by r ++ fs) none.taken ∙ append-nil (taken_by r)) ∙ loads-frames r.half.taken;
-    given = (let a = ap length (moved.given ∙ ap (λ (ns : List ℕ). given_by r ++ with_lengths r.role ns) none.given ∙ append-nil (given_by r)) in let c = length-map (given_entries r) return_in in let d = length-map (given_entries q) return_in in omega (arith, a, c, d));
+    given = (let a = ap length (moved.given ∙ ap (λ (ns : List ℕ). given_by r ++ with_lengths r.role r.half.ring ns) none.given ∙ append-nil (given_by r)) in let c = length-map (given_entries r) return_in in let d = length-map (given_entries q) return_in in omega (arith, a, c, d));
     knows = moved.known;
   }
 

@@ -4,6 +4,7 @@ use Rattle.std.specs.Prelude.{◌==◌}
 use Rattle.std.specs.List.{AllByRecursion}
 use Rattle.std.proofs.lemmas.Bool.{and_from}
 use Rattle.std.proofs.lemmas.List.{length-map}
+use Rattle.mc_base.specs.Limits.{buffer_size}
 use Rattle.shared_words.specs.Shown.{TableShown, size_of}
 use Rattle.shared_words.specs.declared.view.Role.{Role}
 use Rattle.shared_words.specs.declared.view.Role.TheVariants.{Driver, Device}
@@ -322,8 +323,8 @@ module _ (s : Scenario) (board : IsLinkedBoard s) (rings : List LinkRings) (hs :
     held-at : (t : run.Station) (n : ℕ) → IsDomainRun s t.line t.entries → queued_from n (left_by s t.line t.entries).state + lent_from n (left_by s t.line t.entries).state + given (script s t.line.domain) (start s t.line) n t.entries ≡ length (takes_from n t.entries)
     held-at t n runs = let sums = sums_run (script s t.line.domain) n (free_to (start s t.line).state n) 0 0 0 0 (start s t.line) (left_by s t.line t.entries) t.entries (record { apart = tt; below = tt }) runs.steps (record { frees = omega arith; holds = refl }) in omega (arith, sums.holds)
 
-    lane-told : (role : Role) (a b size : ℕ) → Joined s a b size → (closed : FinishedRing) → WasFinished closed → closed.queue ≡ queue_of role → closed.size ≡ size → IsLaneRun role size (sends (moves a b)) (receives (moves b a)) closed → (table : TableShown) → WasRun role table (sends (moves a b)) (receives (moves b a)) closed → TellsLane s js role (record { sender = a; receiver = b; size = size }) closed
-    lane-told role a b size joined ring ended queue sized ran table was =
+    lane-told : (role : Role) (a b size : ℕ) → Joined s a b size → (closed : FinishedRing) → WasFinished closed → closed.queue ≡ queue_of role → closed.size ≡ size → closed.width ≡ buffer_size → IsLaneRun role size (sends (moves a b)) (receives (moves b a)) closed → (table : TableShown) → WasRun role table (sends (moves a b)) (receives (moves b a)) closed → TellsLane s js role (record { sender = a; receiver = b; size = size }) closed
+    lane-told role a b size joined ring ended queue sized wide ran table was =
         let l : Lane = record { sender = a; receiver = b; size = size } in
         let t = station-found a b size joined in
         let u = station-found b a size (joined_back s a b size joined) in
@@ -354,7 +355,7 @@ module _ (s : Scenario) (board : IsLinkedBoard s) (rings : List LinkRings) (hs :
           queue = queue;
           size = sized;
           image =
-              images-are-left role table (sends (moves a b)) (receives (moves b a)) ring (given_places s js b a) was queue (gives-told a b u.0 u.1)
+              images-are-left role table (sends (moves a b)) (receives (moves b a)) ring (given_places s js b a) was queue wide (gives-told a b u.0 u.1)
               ∙ (λ i. image_left (sized i) ring.queue (after_all (at_start (sized i) (given_places s js b a)) (sends-told a b t.0 t.1 i)).used (given_places s js b a));
           free = omega (arith, every, in_it, held_is, gone, back, kept, got);
           ring = in_it;
@@ -379,8 +380,8 @@ module _ (s : Scenario) (board : IsLinkedBoard s) (rings : List LinkRings) (hs :
         go (l ∷ ls) (r ∷ rs) (g ∷ gs) (z ∷ (o ∷ cs)) joined new run =
             let zero = new.0.zero_new in
             let one = new.0.one_new in (
-              lane-told Device l.device l.driver l.size (joined_back s l.driver l.device l.size joined.0) z (run.0.finished0 (run.0.queue0 ∙ zero.is_queue)) (run.0.queue0 ∙ zero.is_queue) (run.0.size0 ∙ zero.sized) (subst (λ (n : ℕ). IsLaneRun Device n (sends (moves l.device l.driver)) (receives (moves l.driver l.device)) z) zero.sized run.0.run0) r.queue0 run.0.was0,
-              lane-told Driver l.driver l.device l.size joined.0 o run.0.finished1 (run.0.queue1 ∙ one.is_queue) (run.0.size1 ∙ one.sized) (subst (λ (n : ℕ). IsLaneRun Driver n (sends (moves l.driver l.device)) (receives (moves l.device l.driver)) o) one.sized run.0.run1) r.queue1 run.0.was1,
+              lane-told Device l.device l.driver l.size (joined_back s l.driver l.device l.size joined.0) z (run.0.finished0 (run.0.queue0 ∙ zero.is_queue)) (run.0.queue0 ∙ zero.is_queue) (run.0.size0 ∙ zero.sized) (run.0.width0 ∙ zero.width) (subst (λ (n : ℕ). IsLaneRun Device n (sends (moves l.device l.driver)) (receives (moves l.driver l.device)) z) zero.sized run.0.run0) r.queue0 run.0.was0,
+              lane-told Driver l.driver l.device l.size joined.0 o run.0.finished1 (run.0.queue1 ∙ one.is_queue) (run.0.size1 ∙ one.sized) (run.0.width1 ∙ one.width) (subst (λ (n : ℕ). IsLaneRun Driver n (sends (moves l.driver l.device)) (receives (moves l.device l.driver)) o) one.sized run.0.run1) r.queue1 run.0.was1,
               go ls rs gs cs joined.1 new.1 run.1,
             )
 

@@ -8,8 +8,8 @@ use Rattle.std.proofs.lemmas.Bool.{and_parts}
 use Rattle.std.proofs.lemmas.Bool.Decides.{eqb_tells}
 use Rattle.std.proofs.lemmas.List.{map-append, length-map}
 use Rattle.std.proofs.lemmas.List.FromFn.{length-range_with_len}
-use Rattle.mc_base.specs.Limits.{buffer_size}
 use Rattle.mc_base.specs.Stored.{Stored}
+use Rattle.shared_words.specs.Shape.{IsRingSize}
 use Rattle.shared_words.specs.Shown.{RingId, size_of}
 use Rattle.shared_words.specs.Slots.{numbers_from}
 use Rattle.shared_words.specs.Start.{new_buffer}
@@ -21,9 +21,12 @@ use Rattle.lane_end.specs.declared.any.AnyRecv.TheVariants as recv
 use Rattle.board_model.specs.declared.scenario.DomainLine.{DomainLine}
 use Rattle.board_model.specs.declared.scenario.LinkLine.{LinkLine}
 use Rattle.board_model.specs.declared.scenario.Scenario.{Scenario}
+use Rattle.board_model.specs.Language.{IsLawfulBoard}
 use Rattle.board_model.specs.LinkedBoard.{Joins, IsLinkedBoard}
 use Rattle.board_model.specs.Scenario.{Neighbour, neighbour, neighbours}
-use Rattle.board_model.proofs.MessageAlls.{found-passes}
+use Rattle.board_model.proofs.LawfulRanges.{lawful-sizes}
+use Rattle.board_model.proofs.LawfulSizes.{IsPowerOfTwo}
+use Rattle.board_model.proofs.MessageAlls.{all-weaken, found-passes}
 use Rattle.board_model.proofs.MessageLists.{get-position}
 use Rattle.board_model.proofs.WholeFinds.{some_tells}
 use Rattle.domain_core.specs.Carrying.{AnyLink}
@@ -35,6 +38,13 @@ use Rattle.board_runner.specs.Near.{nothing_sent, nothing_got}
 use Rattle.board_runner.specs.Opened.{IsLineIn}
 use Rattle.board_runner.specs.Wired.{HaveParts, AreRings, driver_link, device_link, wires_for, leads_from, wire_at, links_wired, IsNewLane, IsWired, IsNewLink, AreLinksOn, link_neighbour, is_other}
 use Rattle.board_runner.proofs.LinkLemmas.{Bare, bare, new_bare, to_bare, links_below, links-begin, links-next, links-done}
+
+-- ---- sizes
+
+-- the links of a lawful board have sizes that a ring may have
+pub ring-sizes : (s : Scenario) → IsLawfulBoard s → AllByRecursion (λ l. IsRingSize l.size) s.links
+ring-sizes s board =
+    all-weaken (λ (l : LinkLine). IsPowerOfTwo l.size) (λ (l : LinkLine). IsRingSize l.size) (λ l p. let few = p.2 in (p.0, p.1, omega (arith, few), p.3)) s.links (lawful-sizes s board)
 
 -- ---- a new lane over a ring
 
@@ -64,8 +74,8 @@ count-from j (suc n) = ap suc (count-from (suc j) n)
 offered_all : (id : RingId) → length (drop (size_of id) (whole (new_buffers id))) ≡ 0
 offered_all id =
     let d = length-drop (size_of id) (whole (new_buffers id)) in
-    let w : length (whole (new_buffers id)) ≡ length (new_buffers id) = length-map (new_buffers id) (λ (b : Stored). (b, buffer_size)) in
-    let n = length-map (numbers_from 0 (size_of id)) new_buffer in
+    let w : length (whole (new_buffers id)) ≡ length (new_buffers id) = length-map (new_buffers id) (λ (b : Stored). (b, length b.bytes)) in
+    let n = length-map (numbers_from 0 (size_of id)) (new_buffer id.width) in
     let k = count-from 0 (size_of id) in
     omega (arith, d, w, n, k)
 

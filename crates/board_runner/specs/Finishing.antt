@@ -34,11 +34,13 @@ pub record LinkHasRun (moves : BoardMoves) (l : LinkLine) (on : LinkRings) (es :
 pub record LinkIsRun (moves : BoardMoves) (l : LinkLine) (on : LinkRings) (zero one : FinishedRing) : Type 0 where
   pub queue0 : zero.queue ≡ on.queue0.queue
   pub size0 : zero.size ≡ size_of on.queue0.ring
+  pub width0 : zero.width ≡ on.queue0.ring.width
   pub finished0 : zero.queue ≡ 0 → WasFinished zero
   pub was0 : WasRun Device on.queue0 (sends (moves l.device l.driver)) (receives (moves l.driver l.device)) zero
   pub run0 : IsLaneRun Device (size_of on.queue0.ring) (sends (moves l.device l.driver)) (receives (moves l.driver l.device)) zero
   pub queue1 : one.queue ≡ on.queue1.queue
   pub size1 : one.size ≡ size_of on.queue1.ring
+  pub width1 : one.width ≡ on.queue1.ring.width
   pub finished1 : WasFinished one
   pub was1 : WasRun Driver on.queue1 (sends (moves l.driver l.device)) (receives (moves l.device l.driver)) one
   pub run1 : IsLaneRun Driver (size_of on.queue1.ring) (sends (moves l.driver l.device)) (receives (moves l.device l.driver)) one

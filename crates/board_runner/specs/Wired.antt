@@ -2,6 +2,7 @@
 -- Source: docs/PROFILE.md, "Boards" and "Lanes": queue 1 leads from the driver of a link to its device, and queue 0 back.
 use Rattle.std.specs.Prelude.{◌≡◌, ◌≤◌, ℕ, zero, suc, Bool, ◌&&◌, ◌==◌, List, [], ◌∷◌, ◌++◌, length, map, filter, find, Option, Some, option_map, option_to_list, vec_capacity, not}
 use Rattle.std.specs.List.{AllByRecursion}
+use Rattle.mc_base.specs.Limits.{buffer_size}
 use Rattle.shared_words.specs.Shape.{IsRingSize}
 use Rattle.shared_words.specs.Shown.{TableShown, size_of}
 use Rattle.shared_words.specs.declared.view.Role.TheVariants as role
@@ -29,11 +30,12 @@ use Rattle.board_runner.specs.Near.{sent_near, got_near, nothing_sent, nothing_g
 
 -- ---- rings
 
--- a new ring of a queue and a size, with its halves and its buffers
+-- a new ring of a queue and a size over buffers of 512 bytes, with its halves and its buffers
 pub record IsNewRing (queue size : ℕ) (ring : TableShown) (h : Halves) : Type 0 where
   pub is_queue : ring.queue ≡ queue
   pub sized : size_of ring.ring ≡ size
   pub lawful : IsRingSize size
+  pub width : ring.ring.width ≡ buffer_size
   pub driver : h.driver ≡ new_end ring.ring
   pub device : h.device ≡ new_end ring.ring
   pub driver_sound : IsSound role.Driver h.driver

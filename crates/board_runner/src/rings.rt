@@ -7,7 +7,7 @@ ghost use Rattle.board_runner.specs.Wired.{AreRings, HaveParts, IsNewRing};
 
 use board_model::LinkLine;
 use board_numbers::append;
-use mc_base::{Buffer, NoMemory};
+use mc_base::{BUFFER_SIZE, Buffer, NoMemory};
 use split_ring::{Device, Driver, Ring, RingFault};
 use std::alloc::Global;
 
@@ -75,7 +75,7 @@ fn new_ring(alloc: Global, queue: u8, size: u32) -> Result<(Ring, Halves), NoMem
     requires size { IsRingSize size }
     ensures { IfOk result (λ r. IsNewRing queue size r.0 r.1) }
 {
-    match Ring::new(alloc, queue, size) {
+    match Ring::new(alloc, queue, size, BUFFER_SIZE as u32) {
         Ok((ring, driver, device, buffers)) => {
             let halves = Halves {
                 driver,
@@ -85,6 +85,6 @@ fn new_ring(alloc: Global, queue: u8, size: u32) -> Result<(Ring, Halves), NoMem
             Ok((ring, halves))
         }
         Err(RingFault::NoMemory) => Err(NoMemory),
-        Err(RingFault::Queue | RingFault::Size) => unreachable!(),
+        Err(RingFault::Queue | RingFault::Size | RingFault::Length) => unreachable!(),
     }
 }

@@ -1,5 +1,5 @@
 //! What the tests do with a book: queue, lend and give back buffers whose bytes count up, and look at them.
-ghost use Rattle.std.specs.Prelude.{◌≡◌, ◌≢◌, ◌≤◌, ◌<◌, ◌+◌, ℕ, OnOk, IfOk, Some, None, IsTrue};
+ghost use Rattle.std.specs.Prelude.{◌≡◌, ◌≢◌, ◌≤◌, ◌<◌, ◌+◌, ℕ, OnOk, IfOk, Some, None, IsTrue, length};
 ghost use Rattle.mc_base.specs.Limits.{buffer_size};
 ghost use Rattle.mc_base.specs.declared.request.Slot.{Slot};
 ghost use Rattle.buffer_book.specs.Book.{IsAway, IsQueued, slot_of};
@@ -30,7 +30,8 @@ pub fn is_stretch(bytes: &[u8], start: u32, size: u32) -> bool {
 
 /// A buffer whose bytes count up from 0.
 pub fn counting(alloc: Global, number: u16) -> Result<Buffer, NoMemory>
-    ensures { IfOk result (λ b. b.number ≡ number) }
+    ensures number { IfOk result (λ b. b.number ≡ number) }
+    ensures wide { IfOk result (λ b. length b.bytes ≡ buffer_size) }
 {
     let mut buffer = Buffer::new(alloc, number)?;
     count_up(buffer.bytes_mut(), 0);

@@ -1,5 +1,5 @@
 //! The book itself.
-ghost use Rattle.std.specs.Prelude.{◌≡◌, ◌≤◌, ◌<◌, ◌+◌, ◌↔◌, ℕ, IfOk, IfSome, OnOk, OnErr, IsErr, IsNone, IsSome, None, Some, map, option_map, option_and_then};
+ghost use Rattle.std.specs.Prelude.{◌≡◌, ◌≤◌, ◌<◌, ◌+◌, ◌↔◌, ℕ, IfOk, IfSome, OnOk, OnErr, IsErr, IsNone, IsSome, None, Some, length, map, option_map, option_and_then};
 ghost use Rattle.mc_base.specs.Limits.{buffer_size};
 ghost use Rattle.buffer_book.specs.Book.{AllDiffer, opening_book, kept_in_buffer, content, count_of, is_single, frame_at, IsAway, IsQueued, queued_at, lent_as, slot_of, with_queued, with_joined, with_lent, with_taken, size_of, queued_from, lent_from, EachHoldsOnce};
 
@@ -44,11 +44,12 @@ impl BufferBook {
     }
 
     /// Keeps a buffer that was taken from a peer, as the first frame of an item in a queue. Its content is `size` bytes from
-    /// byte `start` on, all within the buffer's 512. No item in a queue has its name; a lent one may.
+    /// byte `start` on, all within the buffer, which has 512 bytes. No item in a queue has its name; a lent one may.
     pub fn enqueue(&mut self, peer: u8, buffer: Buffer, start: u32, size: u32) -> Slot
         requires away { IsAway self.old (record { peer = peer; buffer = buffer.number }) }
         requires unqueued { IsNone (queued_at self.old (record { peer = peer; buffer = buffer.number })) }
         requires inside { start + size ≤ buffer_size }
+        requires wide { length buffer.bytes ≡ buffer_size }
         ensures slot { result ≡ record { peer = peer; buffer = buffer.number } }
         ensures book { self.new ≡ with_queued self.old result (kept_in_buffer buffer start size) }
     {
@@ -66,6 +67,7 @@ impl BufferBook {
         requires item { IsQueued self.old first }
         requires away { IsAway self.old (record { peer = first.peer; buffer = buffer.number }) }
         requires inside { start + size ≤ buffer_size }
+        requires wide { length buffer.bytes ≡ buffer_size }
         ensures { self.new ≡ with_joined self.old first (kept_in_buffer buffer start size) }
     {
         let number = buffer.number();
@@ -99,6 +101,7 @@ impl BufferBook {
         ensures buffer { IfOk result (λ r. Some r.0 ≡ option_map (λ k. k.buffer) (option_and_then (frame_at self.old id.peer 0) (lent_as self.old id))) }
         ensures number { IfOk result (λ r. Some r.0.number ≡ option_map (λ i. i.first) (lent_as self.old id)) }
         ensures last { IfOk result (λ r. Some r.1 ≡ option_map is_single (lent_as self.old id)) }
+        ensures wide { IfOk result (λ r. length r.0.bytes ≡ buffer_size) }
         ensures book { OnOk result (self.new ≡ with_taken self.old (slot_of id) (Some id.serial)) }
         ensures stays { OnErr result (self.new ≡ self.old) }
     {
@@ -118,6 +121,7 @@ impl BufferBook {
         ensures none { IsNone result ↔ IsNone (queued_at self.old slot) }
         ensures buffer { result ≡ option_map (λ k. k.buffer) (option_and_then (frame_at self.old slot.peer 0) (queued_at self.old slot)) }
         ensures number { option_map (λ b. b.number) result ≡ option_map (λ i. i.first) (queued_at self.old slot) }
+        ensures wide { IfSome result (λ b. length b.bytes ≡ buffer_size) }
         ensures book { IsSome result → self.new ≡ with_taken self.old slot None }
         ensures stays { IsNone result → self.new ≡ self.old }
     {

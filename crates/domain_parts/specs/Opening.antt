@@ -2,7 +2,7 @@
 -- Source: docs/PROFILE.md, "A domain" and "Boards". The peers stand in rising number, the domain itself among them.
 use Rattle.std.specs.Prelude.{◌≡◌, ◌≤◌, ◌≢◌, ℕ, nat_lt, List, [], ◌∷◌, length, map, if◌then◌else◌}
 use Rattle.std.specs.List.{AllByRecursion}
-use Rattle.mc_base.specs.Limits.{last_domain, ring_limit}
+use Rattle.mc_base.specs.Limits.{last_domain, link_limit}
 use Rattle.lane_end.specs.Loop.{Loop}
 use Rattle.board_model.specs.Scenario.{Neighbour, neighbour}
 use Rattle.domain_parts.specs.declared.link.Link.{Link}
@@ -20,7 +20,7 @@ pub record AreLinksOf {S R : Type 0} (number : ℕ) (ls : List (Link S R)) : Typ
 pub record IsOpenLink {S R : Type 0} (size_to : S → ℕ) (free : S → List ℕ) (size_from : R → ℕ) (shown : R → ℕ) (out : R → List ℕ) (l : Link S R) : Type 0 where
   pub size_to_is : size_to l.send ≡ l.size
   pub size_from_is : size_from l.recv ≡ l.size
-  pub fits : l.size ≤ ring_limit
+  pub fits : l.size ≤ link_limit
   pub all_free : length (free l.send) ≡ l.size
   pub none_shown : shown l.recv ≡ 0
   pub none_out : out l.recv ≡ []

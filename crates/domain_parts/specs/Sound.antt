@@ -2,7 +2,7 @@
 -- Source: the code of the domain.
 use Rattle.std.specs.Prelude.{◌≡◌, ◌≤◌, ◌<◌, ◌+◌, ℕ, List, [], ◌∷◌, length, is_some, true, Contains}
 use Rattle.std.specs.List.{AllByRecursion}
-use Rattle.mc_base.specs.Limits.{creation_limit, last_domain, ring_limit}
+use Rattle.mc_base.specs.Limits.{creation_limit, last_domain, link_limit}
 use Rattle.buffer_book.specs.Book.{Book, shelf_of}
 use Rattle.request_set.specs.Requests.{Requests}
 use Rattle.endpoint_table.specs.Table as endpoint_table
@@ -36,7 +36,7 @@ buffers_count v (p ∷ ps) = (v p.ends).size_from + buffers_count v ps
 -- both lanes of a peer have one size, which a ring may have at most
 pub record IsSized {L : Type 0} (v : L → LaneSeen) (p : Peer L) : Type 0 where
   pub same : (v p.ends).size_to ≡ (v p.ends).size_from
-  pub fits : (v p.ends).size_from ≤ ring_limit
+  pub fits : (v p.ends).size_from ≤ link_limit
 
 -- the peers stand in rising number, the domain itself among them
 pub record ArePeers {L : Type 0} (v : L → LaneSeen) (number : ℕ) (ps : List (Peer L)) : Type 0 where

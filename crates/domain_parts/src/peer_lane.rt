@@ -52,12 +52,14 @@ pub trait PeerLane {
         ensures moved { Moved self.old (receiver (Took result.0.number (take result.1 result.0.bytes)) ∷ []) self.new }
         ensures seen { seen self.new ≡ after_move (receiver (Took result.0.number (take result.1 result.0.bytes))) (seen self.old) }
         ensures fits { result.1 ≤ buffer_size }
+        ensures wide { length result.0.bytes ≡ buffer_size }
         ensures apart { AreApart (seen self.new).size_from (seen self.new).out }
         ensures room { length (seen self.new).out + (seen self.new).shown ≤ (seen self.new).size_from };
 
-    /// Gives back a buffer that is out.
+    /// Gives back a buffer that is out, with all its 512 bytes.
     fn give_back(&mut self, buffer: Buffer)
-        requires { Contains (seen self.old).out buffer.number }
+        requires out { Contains (seen self.old).out buffer.number }
+        requires wide { length buffer.bytes ≡ buffer_size }
         ensures moved { Moved self.old (receiver (Gave buffer.number) ∷ []) self.new }
         ensures seen { seen self.new ≡ after_move (receiver (Gave buffer.number)) (seen self.old) };
 

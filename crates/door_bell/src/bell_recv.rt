@@ -1,4 +1,5 @@
 ghost use Rattle.std.specs.Prelude.{◌≡◌, ◌≤◌, ◌+◌, ◌∷◌, [], length, Contains};
+ghost use Rattle.mc_base.specs.Limits.{buffer_size};
 ghost use Rattle.lane_end.specs.Numbers.{AreApart};
 ghost use Rattle.lane_end.specs.ReceiveMoves.{Gave};
 ghost use Rattle.lane_end.specs.ReceiverContract.{without};
@@ -70,6 +71,7 @@ impl<'a, R: RecvEnd> RecvEnd for BellRecv<'a, R> {
 
     fn give_back(&mut self, buffer: Buffer)
         requires out { Contains (R.out self.old.inner) buffer.number }
+        requires wide { length buffer.bytes ≡ buffer_size }
         ensures moved { R.Moved self.old.inner (Gave buffer.number ∷ []) self.new.inner }
         ensures shown { R.shown self.new.inner ≡ R.shown self.old.inner }
         ensures out { R.out self.new.inner ≡ without buffer.number (R.out self.old.inner) }

@@ -77,7 +77,7 @@ fn idle_looks<'a, R: Threads + Wait + Sync>(
 // end, and a sleep that polls as more idle looks than frames allow.
 #[test]
 fn each_end_of_a_lane_wakes_the_other(rt: HostRuntime) -> Result<(), Fail> {
-    let (ring, driver, device, buffers) = Ring::new(rt.alloc(), 1, 2)?;
+    let (ring, driver, device, buffers) = Ring::new(rt.alloc(), 1, 2, 512)?;
     let Ok((send, recv)) = open_queue1(&ring, driver, device, buffers) else {
         unreachable!()
     };

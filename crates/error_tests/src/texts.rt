@@ -122,7 +122,7 @@ fn each_fault_of_an_image_has_a_text(rt: HostRuntime) -> Result<(), Fail> {
 
 #[test]
 fn each_other_error_has_its_text(rt: HostRuntime) -> Result<(), Fail> {
-    let texts: [(InlineText<160>, &str); 16] = [
+    let texts: [(InlineText<160>, &str); 17] = [
         (InlineText::of(NoMemory), "out of memory"),
         (InlineText::of(BufInvalid), "no lent packet has this id"),
         (InlineText::of(SclSize), "the front scalar has another size"),
@@ -146,6 +146,10 @@ fn each_other_error_has_its_text(rt: HostRuntime) -> Result<(), Fail> {
         (
             InlineText::of(RingFault::Queue),
             "the number of the queue is neither 0 nor 1",
+        ),
+        (
+            InlineText::of(RingFault::Length),
+            "the length of the buffers is not a multiple of 64 from 64 to 4096",
         ),
         (
             InlineText::of(LaneFault::Size),

@@ -43,9 +43,9 @@ firsts-of : (es : List Entry) → firsts (returns_in es) ≡ numbers_in es
 firsts-of [] = refl
 firsts-of (e ∷ es) = ap (λ (l : List ℕ). number_of e ∷ l) (firsts-of es)
 
-firsts-with : (role : Role) (ns : List ℕ) → firsts (with_lengths role ns) ≡ ns
-firsts-with role [] = refl
-firsts-with role (n ∷ ns) = ap (λ (l : List ℕ). n ∷ l) (firsts-with role ns)
+firsts-with : (role : Role) (ring : RingId) (ns : List ℕ) → firsts (with_lengths role ring ns) ≡ ns
+firsts-with role ring [] = refl
+firsts-with role ring (n ∷ ns) = ap (λ (l : List ℕ). n ∷ l) (firsts-with role ring ns)
 
 drop-all : {A : Type 0} (n : ℕ) (xs : List A) → length xs ≡ n → drop n xs ≡ []
 drop-all {A} zero [] e = refl
@@ -97,15 +97,15 @@ pub record Received (sender : Role) (ring : RingId) (receives : List receiving.R
   pub looks : r.half.looks ≡ see_counts receives
   pub seen : SeenBetween 0 r.half.shown 0 receives
 
-given-since : (old : List (ℕ × ℕ)) (role : Role) (es : List Entry) (ns : List ℕ) → old ≡ [] → returns_in es ≡ old ++ with_lengths role ns → numbers_in es ≡ ns
-given-since old role es ns none is = sym (firsts-of es) ∙ (ap firsts (is ∙ ap (λ (l : List (ℕ × ℕ)). l ++ with_lengths role ns) none) ∙ firsts-with role ns)
+given-since : (old : List (ℕ × ℕ)) (role : Role) (ring : RingId) (es : List Entry) (ns : List ℕ) → old ≡ [] → returns_in es ≡ old ++ with_lengths role ring ns → numbers_in es ≡ ns
+given-since old role ring es ns none is = sym (firsts-of es) ∙ (ap firsts (is ∙ ap (λ (l : List (ℕ × ℕ)). l ++ with_lengths role ring ns) none) ∙ firsts-with role ring ns)
 
 pub received-since : (sender : Role) (ring : RingId) (receives : List receiving.ReceiveMove) (r : RingReceiver) → RingReceives (receiver_opened sender ring) receives r → Received sender ring receives r
 received-since Driver ring receives r m = record {
   role = m.role;
   ring_is = m.ring;
   taken = m.taken;
-  given = given-since [] Device (given_entries r) (numbers_given receives) refl m.given;
+  given = given-since [] Device ring (given_entries r) (numbers_given receives) refl m.given;
   looks = m.looks;
   seen = m.seen;
 }
@@ -113,7 +113,7 @@ received-since Device ring receives r m = record {
   role = m.role;
   ring_is = m.ring;
   taken = m.taken;
-  given = given-since (given_by (queue0_receiver ring)) Driver (given_entries r) (numbers_given receives) (ap returns_in (none-new ring)) m.given;
+  given = given-since (given_by (queue0_receiver ring)) Driver ring (given_entries r) (numbers_given receives) (ap returns_in (none-new ring)) m.given;
   looks = m.looks;
   seen = m.seen;
 }

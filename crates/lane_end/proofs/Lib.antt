@@ -11,3 +11,4 @@ pub mod ExactLemmas
 pub mod AnyLaneLemmas
 pub mod LaneRunLemmas
 pub mod FinishLemmas
+pub mod WideLemmas

@@ -4,7 +4,7 @@ use Rattle.std.specs.Prelude.{map}
 use Rattle.std.specs.List.{range_with_len}
 use Rattle.std.proofs.lemmas.List.{length-map}
 use Rattle.std.proofs.Math.Nat.{pow-le-pow_right}
-use Rattle.mc_base.specs.Limits.{buffer_size}
+use Rattle.mc_base.specs.Limits.{ring_limit, buffer_size}
 use Rattle.mc_base.specs.Stored.{Stored}
 use Rattle.shared_words.specs.Entry.{times}
 use Rattle.shared_words.specs.Shape.{IsRingSize}
@@ -21,19 +21,19 @@ use Rattle.lane_end.specs.KeptRing.{sender_with, KeepsSender, KeepsReceiver}
 use Rattle.lane_end.proofs.CountLemmas.{often-all}
 use Rattle.lane_end.proofs.EntryLemmas.{times-often}
 
-first-numbers : (j n : ℕ) → numbers_of (map new_buffer (numbers_from j n)) ≡ range_with_len j n
-first-numbers j zero = refl
-first-numbers j (suc n) = let e : suc j ≡ j + 1 = omega arith in ap (λ (l : List ℕ). j ∷ l) (first-numbers (suc j) n ∙ ap (λ (k : ℕ). range_with_len k n) e)
+first-numbers : (width j n : ℕ) → numbers_of (map (new_buffer width) (numbers_from j n)) ≡ range_with_len j n
+first-numbers width j zero = refl
+first-numbers width j (suc n) = let e : suc j ≡ j + 1 = omega arith in ap (λ (l : List ℕ). j ∷ l) (first-numbers width (suc j) n ∙ ap (λ (k : ℕ). range_with_len k n) e)
 
 pub new-numbers : (ring : RingId) → numbers_of (new_buffers ring) ≡ all_numbers (size_of ring)
-new-numbers ring = first-numbers 0 (size_of ring)
+new-numbers ring = first-numbers ring.width 0 (size_of ring)
 
 pub whole-numbers : (buffers : List Stored) → numbers_in (whole buffers) ≡ numbers_of buffers
 whole-numbers [] = refl
 whole-numbers (b ∷ bs) = ap (λ (l : List ℕ). b.number ∷ l) (whole-numbers bs)
 
 pub whole-length : (buffers : List Stored) → length (whole buffers) ≡ length buffers
-whole-length bs = length-map bs (λ (b : Stored). (b, buffer_size))
+whole-length bs = length-map bs (λ (b : Stored). (b, length b.bytes))
 
 range-length : (j n : ℕ) → length (range_with_len j n) ≡ n
 range-length j zero = refl
@@ -56,13 +56,14 @@ take-whole {A} (suc n) [] e = refl
 take-whole {A} zero (x ∷ xs) e = absurd (omega (arith, e))
 take-whole {A} (suc n) (x ∷ xs) e = ap (λ (l : List A). x ∷ l) (take-whole n xs (omega (arith, e)))
 
-pub size-small : (size : ℕ) → IsRingSize size → size ≤ 256
-size-small size (k, low, high, is) = let p : 2 ^ k ≤ 2 ^ 8 = pow-le-pow_right (omega arith) high in omega (arith, is, p)
+pub size-small : (size : ℕ) → IsRingSize size → size ≤ ring_limit
+size-small size (k, low, high, is) = let p : 2 ^ k ≤ 2 ^ 15 = pow-le-pow_right (omega arith) high in omega (arith, is, p)
 
-module _ (on : TableShown) where
+module _ (on : TableShown) (width : on.ring.width ≡ buffer_size) where
   pub queue1-sends : (capacity : ℕ) → IsRingSize (size_of on.ring) → size_of on.ring ≤ capacity → IsSound Driver (queue1_sender on.ring).half → KeepsSender on capacity (queue1_sender on.ring)
   queue1-sends capacity size room sound = record {
     ring = refl;
+    width = width;
     sound = sound;
     held = λ x. let o = often-all (size_of on.ring) x in omega (arith, o);
     count = let r = range-length 0 (size_of on.ring) in omega (arith, r);
@@ -74,6 +75,7 @@ module _ (on : TableShown) where
   pub queue0-sends : (capacity : ℕ) → IsRingSize (size_of on.ring) → size_of on.ring ≤ capacity → IsSound Device (queue0_sender on.ring).half → KeepsSender on capacity (queue0_sender on.ring)
   queue0-sends capacity size room sound = record {
     ring = refl;
+    width = width;
     sound = sound;
     held = λ x. let o = often-all (size_of on.ring) x in let w = whole-times on.ring x in omega (arith, o, w);
     count = let r = range-length 0 (size_of on.ring) in let w = whole-new on.ring in omega (arith, r, w);
@@ -85,6 +87,7 @@ module _ (on : TableShown) where
   pub queue0-receives : IsSound Driver (queue0_receiver on.ring).half → KeepsReceiver on (queue0_receiver on.ring)
   queue0-receives sound = record {
     ring = refl;
+    width = width;
     sound = sound;
     first = λ x. ap (times x) (take-whole (size_of on.ring) (whole (new_buffers on.ring)) (whole-new on.ring)) ∙ whole-times on.ring x;
     receiver = record { shown = omega arith; opened = let w = whole-new on.ring in omega (arith, w) };

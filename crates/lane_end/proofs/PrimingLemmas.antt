@@ -1,7 +1,6 @@
 -- The steps of a priming.
 use Rattle.std.proofs.Common.{◌≡◌, List, [], ◌∷◌, ◌++◌, length, sym, ap, ◌∙◌, arith, length-append, append_assoc, append-nil}
 use Rattle.std.proofs.lemmas.List.{map-append}
-use Rattle.mc_base.specs.Limits.{buffer_size}
 use Rattle.mc_base.specs.Stored.{Stored}
 use Rattle.shared_words.specs.Entry.{Entry}
 use Rattle.shared_words.specs.declared.view.Role.TheVariants.{Driver}
@@ -11,11 +10,11 @@ use Rattle.lane_end.specs.RingOpening.{whole}
 use Rattle.lane_end.specs.Priming.{Offers}
 use Rattle.lane_end.proofs.OpeningLemmas.{whole-length}
 
-pub offers-more : (old mid new : End) (done left rest : List Stored) (b : Stored) → Offers old mid done left → left ≡ b ∷ rest → new ≡ writes (b, buffer_size) mid → IsSound Driver new → Offers old new (done ++ b ∷ []) rest
+pub offers-more : (old mid new : End) (done left rest : List Stored) (b : Stored) → Offers old mid done left → left ≡ b ∷ rest → new ≡ writes (b, length b.bytes) mid → IsSound Driver new → Offers old new (done ++ b ∷ []) rest
 offers-more old mid new done left rest b o is after sound = record {
-  driver = after ∙ (ap (writes (b, buffer_size)) o.driver
-      ∙ (λ i. record old { written = (append_assoc old.written (whole done) ((b, buffer_size) ∷ []) ∙ ap (λ (l : List Entry). old.written ++ l) (sym (map-append (λ (s : Stored). (s, buffer_size)) done (b ∷ [])))) i }));
-  held = tail_held Driver mid new left rest b buffer_size is after o.held;
+  driver = after ∙ (ap (writes (b, length b.bytes)) o.driver
+      ∙ (λ i. record old { written = (append_assoc old.written (whole done) ((b, length b.bytes) ∷ []) ∙ ap (λ (l : List Entry). old.written ++ l) (sym (map-append (λ (s : Stored). (s, length s.bytes)) done (b ∷ [])))) i }));
+  held = tail_held Driver mid new left rest b (length b.bytes) is after o.held;
   sound = sound;
 }
 

@@ -3,9 +3,10 @@ use Rattle.std.proofs.Common.{◌≡◌, ℕ, ◌+◌, ◌-◌, ◌<◌, ◌≤�
 use Rattle.std.specs.Prelude.{Contains}
 use Rattle.std.proofs.lemmas.List.{map-append, take-append-le}
 use Rattle.mc_base.specs.Stored.{Stored}
+use Rattle.mc_base.specs.Limits.{buffer_size}
 use Rattle.shared_words.specs.Entry.{Entry, number_of, times}
 use Rattle.shared_words.specs.Places.{begins}
-use Rattle.shared_words.specs.Shown.{TableShown}
+use Rattle.shared_words.specs.Shown.{RingId, TableShown}
 use Rattle.split_ring.specs.Ends.{looks_at, takes, writes, HoldsNumber, IsSound}
 use Rattle.lane_end.specs.Numbers.{often, AreApart}
 use Rattle.lane_end.specs.ReceiveMoves.{Looked, Took, Gave}
@@ -58,12 +59,17 @@ module _ (on : TableShown) (r : RingReceiver) (k : KeepsReceiver on r) where
       let o = often-struck (numbers_in (given_entries r)) (numbers_in r.half.taken) are-among n in
       let g = given-times n in let t = times-often n r.half.taken in omega (arith, p, o, g, t)
 
+  -- its ring's buffers have the bytes that those of a link have
+  pub ring_width : r.half.ring.width ≡ buffer_size
+  ring_width = ap (λ (i : RingId). i.width) k.ring ∙ k.width
+
   pub look-keeps : (n : ℕ) → IsSound r.role (looks_at n r.half) → KeepsReceiver on (looked n r)
-  look-keeps n sound = record { ring = k.ring; sound = sound; first = k.first; receiver = record { shown = omega arith; opened = k.receiver.opened } }
+  look-keeps n sound = record { ring = k.ring; width = k.width; sound = sound; first = k.first; receiver = record { shown = omega arith; opened = k.receiver.opened } }
 
   pub take-keeps : (e : Entry) → 0 < r.shown → IsSound r.role (takes e r.half) → KeepsReceiver on (took e r)
   take-keeps e some sound = record {
     ring = k.ring;
+    width = k.width;
     sound = sound;
     first = k.first;
     receiver = record { shown = let s = k.receiver.shown in let l = length-append r.half.taken (e ∷ []) in omega (arith, s, l, some); opened = k.receiver.opened };
@@ -72,6 +78,7 @@ module _ (on : TableShown) (r : RingReceiver) (k : KeepsReceiver on r) where
   pub give-keeps : (e : Entry) → IsSound r.role (writes e r.half) → KeepsReceiver on (gave e r)
   give-keeps e sound = record {
     ring = k.ring;
+    width = k.width;
     sound = sound;
     first = λ x. ap (times x) (take-append-le (written_before r.role (receiver_size r)) r.half.written (e ∷ []) k.receiver.opened) ∙ k.first x;
     receiver = record { shown = k.receiver.shown; opened = let o = k.receiver.opened in let l = length-append r.half.written (e ∷ []) in omega (arith, o, l) };
@@ -113,8 +120,8 @@ module _ (on : TableShown) (r : RingReceiver) (k : KeepsReceiver on r) where
     seen = tt;
   }
 
-  pub give-moves : (b : Stored) → Contains (out_at r) b.number → RingReceives r (Gave b.number ∷ []) (gave (b, given_length r.role) r)
-  give-moves b out = let e : Entry = (b, given_length r.role) in record {
+  pub give-moves : (b : Stored) → Contains (out_at r) b.number → RingReceives r (Gave b.number ∷ []) (gave (b, given_length r.role r.half.ring) r)
+  give-moves b out = let e : Entry = (b, given_length r.role r.half.ring) in record {
     ring = refl;
     role = refl;
     taken = sym (append-nil (taken_by r));

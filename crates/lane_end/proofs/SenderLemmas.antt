@@ -3,9 +3,10 @@ use Rattle.std.proofs.Common.{◌≡◌, ℕ, ◌+◌, ◌≤◌, List, [], ◌�
 use Rattle.std.specs.Prelude.{sum}
 use Rattle.std.proofs.lemmas.List.{map-append, drop-append-le}
 use Rattle.std.proofs.lemmas.List.Sums.{sum_by-append}
+use Rattle.mc_base.specs.Limits.{buffer_size}
 use Rattle.shared_words.specs.Entry.{Entry, number_of, times}
 use Rattle.shared_words.specs.Places.{begins, starts_with}
-use Rattle.shared_words.specs.Shown.{TableShown, size_of}
+use Rattle.shared_words.specs.Shown.{RingId, TableShown, size_of}
 use Rattle.split_ring.specs.Ends.{writes, HoldsNumber, IsSound}
 use Rattle.lane_end.specs.Numbers.{often, AreApart}
 use Rattle.lane_end.specs.SendMoves.{Looked, Sent}
@@ -29,12 +30,17 @@ module _ (on : TableShown) (capacity : ℕ) (s : RingSender) (k : KeepsSender on
   pub free-apart : AreApart (sender_size s) s.free
   free-apart x = let h = k.held x in let d = k.sound.differ x in omega (arith, h, d)
 
+  -- its ring's buffers have the bytes that those of a link have
+  pub ring_width : s.half.ring.width ≡ buffer_size
+  ring_width = ap (λ (i : RingId). i.width) k.ring ∙ k.width
+
   pub first-held : (n : ℕ) (rest : List ℕ) → s.free ≡ n ∷ rest → HoldsNumber s.role s.half n
   first-held n rest is = let h = k.held n in let f = ap (often n) is in let t = tick-same n n refl in omega (arith, h, f, t)
 
   pub put-keeps : (e : Entry) (rest : List ℕ) (more : ℕ) → s.free ≡ number_of e ∷ rest → IsSound s.role (writes e s.half) → capacity ≤ more → KeepsSender on more (put_with e rest s)
   put-keeps e rest more is sound room = record {
     ring = k.ring;
+    width = k.width;
     sound = sound;
     held = λ x. let h = k.held x in let f = ap (often x) is in let w = times-append x s.half.written (e ∷ []) in omega (arith, h, f, w);
     count = let c = k.count in let f = ap (λ (l : List ℕ). length l) is in let w = length-append s.half.written (e ∷ []) in omega (arith, c, f, w);
@@ -76,6 +82,7 @@ module _ (on : TableShown) (capacity seen done : ℕ) (start now : RingSender) (
     pub look-keeps : KeepsSender on capacity now
     look-keeps = record {
       ring = l.ring ∙ l.starts.ring;
+      width = l.starts.width;
       sound = l.sound;
       held = λ x.
           let h = l.starts.held x in let f = ap (often x) l.free in let fa = often-append x start.free (numbers_in l.more) in let w = ap (times x) l.written in

@@ -2,7 +2,7 @@
 -- Source: docs/PROFILE.md, "Lanes": the driver has all buffers at first. In queue 1 the driver sends. In queue 0 the device
 -- sends, so all buffers are offered to it before the lane is open.
 use Rattle.std.specs.Prelude.{ℕ}
-use Rattle.mc_base.specs.Limits.{buffer_size}
+use Rattle.shared_words.specs.Shown.{RingId}
 use Rattle.shared_words.specs.declared.view.Role.{Role}
 use Rattle.shared_words.specs.declared.view.Role.TheVariants.{Driver, Device}
 
@@ -18,6 +18,6 @@ written_before Device size = 0
 
 -- the length with which the half that receives gives a buffer back: the driver offers the whole buffer for the next frame, and
 -- the device has written nothing into it
-abbrev pub given_length : Role → ℕ
-given_length Driver = buffer_size
-given_length Device = 0
+abbrev pub given_length : Role → RingId → ℕ
+given_length Driver ring = ring.width
+given_length Device ring = 0

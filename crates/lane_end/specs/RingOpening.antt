@@ -1,8 +1,7 @@
 -- The ends of a lane over a ring when it is opened.
 -- Source: docs/PROFILE.md, "Lanes": all buffers are free with the sender. In queue 1 the driver sends, which has them from the
 -- beginning. In queue 0 the device sends: first the driver offers every buffer, whole, and the device fetches them all.
-use Rattle.std.specs.Prelude.{ℕ, List, map}
-use Rattle.mc_base.specs.Limits.{buffer_size}
+use Rattle.std.specs.Prelude.{ℕ, List, length, map}
 use Rattle.mc_base.specs.Stored.{Stored}
 use Rattle.shared_words.specs.Entry.{Entry}
 use Rattle.shared_words.specs.Slots.{numbers_from}
@@ -16,11 +15,11 @@ use Rattle.lane_end.specs.RingReceiver.{RingReceiver}
 
 -- the buffers of a new ring
 abbrev pub new_buffers : RingId → List Stored
-new_buffers ring = map new_buffer (numbers_from 0 (size_of ring))
+new_buffers ring = map (new_buffer ring.width) (numbers_from 0 (size_of ring))
 
 -- buffers that are offered whole
 abbrev pub whole : List Stored → List Entry
-whole buffers = map (λ (b : Stored). (b, buffer_size)) buffers
+whole buffers = map (λ (b : Stored). (b, length b.bytes)) buffers
 
 -- the halves after every buffer went from the driver to the device; no look was made
 abbrev pub primed_driver : RingId → List Stored → End

@@ -2,7 +2,7 @@
 -- Source: docs/PROFILE.md, "Lanes".
 use Rattle.std.specs.Prelude.{◌≡◌, ℕ, ◌≤◌, List, [], ◌∷◌, ◌++◌, length, drop, map, Contains}
 use Rattle.shared_words.specs.Entry.{Entry}
-use Rattle.shared_words.specs.Shown.{size_of}
+use Rattle.shared_words.specs.Shown.{RingId, size_of}
 use Rattle.shared_words.specs.declared.view.Role.{Role}
 use Rattle.split_ring.specs.Ends.{End}
 use Rattle.lane_end.specs.Numbers.{AreApart}
@@ -50,8 +50,8 @@ abbrev pub out_at : RingReceiver → List ℕ
 out_at r = struck (numbers_in (given_entries r)) (numbers_in r.half.taken)
 
 -- buffers given back, with their lengths
-abbrev pub with_lengths : Role → List ℕ → List (ℕ × ℕ)
-with_lengths role numbers = map (λ (n : ℕ). (n, given_length role)) numbers
+abbrev pub with_lengths : Role → RingId → List ℕ → List (ℕ × ℕ)
+with_lengths role ring numbers = map (λ (n : ℕ). (n, given_length role ring)) numbers
 
 -- the moves lead from the numbers of the buffers that are out to others: a take adds one, and one that is given back was out. After each take
 -- they differ and are below the size
@@ -66,8 +66,8 @@ pub record RingReceives (old : RingReceiver) (moves : List ReceiveMove) (new : R
   pub ring : new.half.ring ≡ old.half.ring
   pub role : new.role ≡ old.role
   pub taken : taken_by new ≡ taken_by old ++ frames_taken moves
-  pub given : given_by new ≡ given_by old ++ with_lengths old.role (numbers_given moves)
-  pub written : written_by new ≡ written_by old ++ with_lengths old.role (numbers_given moves)
+  pub given : given_by new ≡ given_by old ++ with_lengths old.role old.half.ring (numbers_given moves)
+  pub written : written_by new ≡ written_by old ++ with_lengths old.role old.half.ring (numbers_given moves)
   pub outs : OutMoves (receiver_size old) (out_at old) moves (out_at new)
   pub looks : new.half.looks ≡ old.half.looks ++ see_counts moves
   pub known : come_known old ≤ come_known new

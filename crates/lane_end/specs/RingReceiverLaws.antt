@@ -44,8 +44,8 @@ Seen-append low high before (Took n f ∷ xs) ys a b =
     Seen-append low high (before + 1) xs ys a (subst (λ (m : ℕ). SeenBetween low high m ys) e b)
 Seen-append low high before (Gave n ∷ xs) ys a b = Seen-append low high before xs ys a b
 
-lengths-append : (role : Role) (xs ys : List ℕ) → with_lengths role (xs ++ ys) ≡ with_lengths role xs ++ with_lengths role ys
-lengths-append role xs ys = map-append (λ (n : ℕ). (n, given_length role)) xs ys
+lengths-append : (role : Role) (ring : RingId) (xs ys : List ℕ) → with_lengths role ring (xs ++ ys) ≡ with_lengths role ring xs ++ with_lengths role ring ys
+lengths-append role ring xs ys = map-append (λ (n : ℕ). (n, given_length role ring)) xs ys
 
 Out-append : (size : ℕ) (a b c : List ℕ) (xs ys : List ReceiveMove) → OutMoves size a xs b → OutMoves size b ys c → OutMoves size a (xs ++ ys) c
 Out-append size a b c [] ys first then = subst (λ (out : List ℕ). OutMoves size out ys c) first then
@@ -60,10 +60,10 @@ pub RingReceives-both : (a b c : RingReceiver) (xs ys : List ReceiveMove) → Ri
 RingReceives-both a b c xs ys f g =
     let many : length b.half.taken ≡ length a.half.taken + length (frames_taken xs) =
     sym (length-map b.half.taken load_in) ∙ (ap (λ (l : List (ℕ × List ℕ)). length l) f.taken ∙ (length-append (taken_by a) (frames_taken xs) ∙ ap (λ (m : ℕ). m + length (frames_taken xs)) (length-map a.half.taken load_in))) in
-    let both : (part : RingReceiver → List (ℕ × ℕ)) → part b ≡ part a ++ with_lengths a.role (numbers_given xs) → part c ≡ part b ++ with_lengths b.role (numbers_given ys) → part c ≡ part a ++ with_lengths a.role (numbers_given (xs ++ ys)) =
-    λ part first then. then ∙ ((λ i. first i ++ with_lengths (f.role i) (numbers_given ys))
-    ∙ (append_assoc (part a) (with_lengths a.role (numbers_given xs)) (with_lengths a.role (numbers_given ys))
-    ∙ ap (λ (l : List (ℕ × ℕ)). part a ++ l) (sym (ap (with_lengths a.role) (given-append xs ys) ∙ lengths-append a.role (numbers_given xs) (numbers_given ys))))) in record {
+    let both : (part : RingReceiver → List (ℕ × ℕ)) → part b ≡ part a ++ with_lengths a.role a.half.ring (numbers_given xs) → part c ≡ part b ++ with_lengths b.role b.half.ring (numbers_given ys) → part c ≡ part a ++ with_lengths a.role a.half.ring (numbers_given (xs ++ ys)) =
+    λ part first then. then ∙ ((λ i. first i ++ with_lengths (f.role i) (f.ring i) (numbers_given ys))
+    ∙ (append_assoc (part a) (with_lengths a.role a.half.ring (numbers_given xs)) (with_lengths a.role a.half.ring (numbers_given ys))
+    ∙ ap (λ (l : List (ℕ × ℕ)). part a ++ l) (sym (ap (with_lengths a.role a.half.ring) (given-append xs ys) ∙ lengths-append a.role a.half.ring (numbers_given xs) (numbers_given ys))))) in record {
       ring = g.ring ∙ f.ring;
       role = g.role ∙ f.role;
       taken = g.taken ∙ (ap (λ (l : List (ℕ × List ℕ)). l ++ frames_taken ys) f.taken ∙ (append_assoc (taken_by a) (frames_taken xs) (frames_taken ys) ∙ ap (λ (l : List (ℕ × List ℕ)). taken_by a ++ l) (sym (taken-append xs ys))));

@@ -9,6 +9,7 @@ pub(crate) struct Carried {
     pub buffer: Buffer,
     pub len: u32,
     ghost fits: { len ≤ buffer_size },
+    ghost wide: { length buffer.bytes ≡ buffer_size },
 }
 
 impl Carried {
@@ -16,7 +17,8 @@ impl Carried {
 
     /// Copies a frame into a buffer, over its first bytes.
     pub fn load(mut buffer: Buffer, frame: &[u8]) -> Carried
-        requires { length frame.now ≤ buffer_size }
+        requires fits { length frame.now ≤ buffer_size }
+        requires wide { length buffer.bytes ≡ buffer_size }
         ensures { frame_of result ≡ (buffer.number, frame.now) }
     {
         copy(frame, buffer.bytes_mut());

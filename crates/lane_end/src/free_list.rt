@@ -1,9 +1,11 @@
 ghost use Rattle.std.specs.Prelude.{◌≡◌, ◌≤◌, ◌<◌, ◌+◌, ◌∷◌, [], IfOk, length};
 ghost use Rattle.std.specs.VecDeque.{deque_len, deque_capacity};
+ghost use Rattle.mc_base.specs.Limits.{buffer_size};
 ghost use Rattle.lane_end.specs.Waiting.{Waiting, all_free, all_back_free, first_used, with_back};
 ghost use Rattle.lane_end.specs.Held.{numbers_of};
 ghost use Rattle.lane_end.specs.Numbers.{all_numbers};
 
+use crate::pool_buffer::PoolBuffer;
 use mc_base::Buffer;
 use std::alloc::{AllocError, Global};
 use std::collections::VecDeque;
@@ -14,7 +16,7 @@ use std::marker::Model;
 #[derive(Debug, Drop)]
 pub(crate) struct FreeList {
     size: u32,
-    buffers: VecDeque<Buffer>,
+    buffers: VecDeque<PoolBuffer>,
     free: u32,
 }
 
@@ -68,21 +70,23 @@ impl FreeList {
         requires { 0 < length self.old.free }
         ensures first { self.old.free ≡ result.number ∷ self.new.free }
         ensures rest { self.new ≡ first_used self.old }
+        ensures wide { length result.bytes ≡ buffer_size }
     {
         self.free -= 1;
-        self.buffers.pop_front().unwrap()
+        self.buffers.pop_front().unwrap().into_buffer()
     }
 
     /// Appends a buffer that came back.
     pub fn add(&mut self, buffer: Buffer)
-        requires { length self.old.free + length self.old.back < self.old.size }
+        requires room { length self.old.free + length self.old.back < self.old.size }
+        requires wide { length buffer.bytes ≡ buffer_size }
         ensures { self.new ≡ with_back self.old (buffer.number ∷ []) }
     {
-        self.buffers.push_back_reserved(buffer);
+        self.buffers.push_back_reserved(PoolBuffer::new(buffer));
     }
 
     /// Moves all buffers that came back to the end of the list.
-    pub fn add_all(&mut self, buffers: &mut VecDeque<Buffer>)
+    pub fn add_all(&mut self, buffers: &mut VecDeque<PoolBuffer>)
         requires { length self.old.free + length self.old.back + deque_len buffers.old ≤ self.old.size }
         ensures added { self.new ≡ with_back self.old (numbers_of buffers.old.items) }
         ensures left { buffers.new.items ≡ [] }
@@ -95,7 +99,7 @@ impl FreeList {
 }
 
 // Makes `size` buffers, numbered from 0.
-fn all_buffers(alloc: Global, size: u32) -> Result<VecDeque<Buffer>, AllocError>
+fn all_buffers(alloc: Global, size: u32) -> Result<VecDeque<PoolBuffer>, AllocError>
     requires { size ≤ 256 }
     ensures numbers { IfOk result (λ q. numbers_of q.items ≡ all_numbers size) }
     ensures len { IfOk result (λ q. deque_len q ≡ size) }
@@ -106,7 +110,7 @@ fn all_buffers(alloc: Global, size: u32) -> Result<VecDeque<Buffer>, AllocError>
         let Ok(buffer) = Buffer::new(alloc, number) else {
             return Err(AllocError);
         };
-        buffers.push_back_reserved(buffer);
+        buffers.push_back_reserved(PoolBuffer::new(buffer));
     }
     Ok(buffers)
 }

@@ -19,6 +19,7 @@ mod opening;
 mod plain;
 mod plain_recv;
 mod plain_send;
+mod pool_buffer;
 mod priming;
 mod recv_end;
 mod returned;

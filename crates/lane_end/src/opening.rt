@@ -1,6 +1,7 @@
 //! Opening lanes over the rings of a link.
 
 ghost use Rattle.std.specs.Prelude.{◌≡◌, ◌≤◌, IfOk, IsOk, vec_capacity};
+ghost use Rattle.mc_base.specs.Limits.{buffer_size};
 ghost use Rattle.shared_words.specs.Shape.{IsRingSize};
 ghost use Rattle.shared_words.specs.Shown.{size_of};
 ghost use Rattle.shared_words.specs.declared.view.Role.TheVariants as role;
@@ -27,7 +28,8 @@ pub type DeviceSend<'a> = RingSend<'a, Device>;
 /// A receiver over the driver's half of queue 0.
 pub type DriverRecv<'a> = RingRecv<'a, Driver>;
 
-/// Opens the lane over queue 1 of a link, from the driver to the device. All buffers are free at the sender.
+/// Opens the lane over queue 1 of a link, from the driver to the device. All buffers are free at the sender, and each has 512
+/// bytes.
 ///
 /// The halves and the buffers must be as `Ring::new` returned them. It allocates nothing.
 ///
@@ -42,6 +44,7 @@ pub fn open_queue1<'a>(
 ) -> Result<(DriverSend<'a>, DeviceRecv<'a>), NoMemory>
     requires queue { on.now.queue ≡ 1 }
     requires size { IsRingSize (size_of on.now.ring) }
+    requires width { on.now.ring.width ≡ buffer_size }
     requires halves { (driver ≡ new_end on.now.ring) × (device ≡ new_end on.now.ring) }
     requires sound { IsSound role.Driver driver × IsSound role.Device device }
     requires buffers { buffers.items ≡ new_buffers on.now.ring }
@@ -80,6 +83,7 @@ pub fn open_queue0<'a>(
 ) -> Result<(DeviceSend<'a>, DriverRecv<'a>), NoMemory>
     requires queue { on.now.queue ≡ 0 }
     requires size { IsRingSize (size_of on.now.ring) }
+    requires width { on.now.ring.width ≡ buffer_size }
     requires halves { (driver ≡ new_end on.now.ring) × (device ≡ new_end on.now.ring) }
     requires sound { IsSound role.Driver driver × IsSound role.Device device }
     requires buffers { buffers.items ≡ new_buffers on.now.ring }

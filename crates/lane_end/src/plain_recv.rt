@@ -4,6 +4,7 @@ ghost use Rattle.lane_end.specs.PlainReceiver.{Receiver};
 ghost use Rattle.lane_end.specs.PlainLane.{new_receiver};
 
 use crate::inbox::Inbox;
+use crate::pool_buffer::PoolBuffer;
 use crate::recv_end::RecvEnd;
 use mc_base::Buffer;
 use std::alloc::{AllocError, Global};
@@ -15,7 +16,7 @@ use std::marker::Model;
 pub struct PlainRecv {
     pub(crate) inbox: Inbox,
     /// The buffers given back and not yet shuttled.
-    pub(crate) given: VecDeque<Buffer>,
+    pub(crate) given: VecDeque<PoolBuffer>,
 }
 
 impl Model for PlainRecv {
@@ -72,6 +73,6 @@ impl RecvEnd for PlainRecv {
 
     fn give_back(&mut self, buffer: Buffer) {
         self.inbox.strike(buffer.number());
-        self.given.push_back_reserved(buffer);
+        self.given.push_back_reserved(PoolBuffer::new(buffer));
     }
 }

@@ -1,18 +1,20 @@
 ghost use Rattle.std.specs.Prelude.{◌≡◌, ◌≤◌, ◌+◌, ℕ, [], length};
+ghost use Rattle.std.specs.List.{All};
 ghost use Rattle.std.specs.VecDeque.{deque_len, deque_capacity};
+ghost use Rattle.mc_base.specs.Limits.{ring_limit};
 ghost use Rattle.shared_words.specs.declared.view.Role.TheVariants as role;
-ghost use Rattle.split_ring.specs.Ends.{new_end, AreHeld, IsSound};
+ghost use Rattle.split_ring.specs.Ends.{new_end, AreHeld, HasWidth, IsSound};
 ghost use Rattle.lane_end.specs.Held.{numbers_of};
 ghost use Rattle.lane_end.specs.RingOpening.{primed_driver, primed_device};
 ghost use Rattle.lane_end.specs.Priming.{Offers, Fetches};
 
 use crate::ring_half::RingHalf;
-use mc_base::{BUFFER_SIZE, Buffer};
+use mc_base::Buffer;
 use split_ring::{Device, Driver, Ring};
 use std::collections::VecDeque;
 
-/// Moves all buffers from the driver to the device, so that the device can send: the driver offers each whole, with length 512,
-/// and the device fetches it. The list then has the device's buffers, with the same numbers in the same order.
+/// Moves all buffers from the driver to the device, so that the device can send: the driver offers each whole, and the device
+/// fetches it. The list then has the device's buffers, with the same numbers in the same order.
 pub(crate) fn prime(
     on: &Ring,
     driver: &mut Driver,
@@ -22,12 +24,13 @@ pub(crate) fn prime(
     requires halves { (driver.old ≡ new_end on.now.ring) × (device.old ≡ new_end on.now.ring) }
     requires sound { IsSound role.Driver driver.old × IsSound role.Device device.old }
     requires held { AreHeld role.Driver driver.old buffers.old.items }
-    requires small { length buffers.old.items ≤ 256 }
+    requires small { length buffers.old.items ≤ ring_limit }
     ensures free { numbers_of buffers.new.items ≡ numbers_of buffers.old.items }
     ensures room { deque_capacity buffers.new ≡ deque_capacity buffers.old }
     ensures driver { driver.new ≡ primed_driver on.now.ring buffers.old.items }
     ensures device { device.new ≡ primed_device on.now.ring buffers.old.items (length buffers.old.items) }
     ensures sound { IsSound role.Driver driver.new × IsSound role.Device device.new }
+    ensures wide { All (HasWidth device.new) buffers.new.items }
 {
     let size = buffers.len() as u32;
     offer_all(on, driver, buffers);
@@ -46,7 +49,7 @@ fn offer_all(on: &Ring, driver: &mut Driver, buffers: &mut VecDeque<Buffer>)
     ensures room { deque_capacity buffers.new ≡ deque_capacity buffers.old }
 {
     while let Some(buffer) = buffers.pop_front() {
-        driver.offer(on, buffer, BUFFER_SIZE as u32);
+        driver.offer(on, buffer, on.length());
     }
 }
 
@@ -55,6 +58,8 @@ fn fetch_all(on: &Ring, device: &mut Device, buffers: &mut VecDeque<Buffer>, cou
     requires sound { IsSound role.Device device.old }
     requires shown { device.old.shown ≡ length device.old.taken + count }
     requires room { length buffers.old.items + count ≤ deque_capacity buffers.old }
+    requires wide { All (HasWidth device.old) buffers.old.items }
+    ensures wide { All (HasWidth device.new) buffers.new.items }
     ensures fetched { Fetches device.old device.new buffers.old.items buffers.new.items count }
     ensures room { deque_capacity buffers.new ≡ deque_capacity buffers.old }
 {

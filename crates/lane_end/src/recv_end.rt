@@ -39,15 +39,17 @@ pub trait RecvEnd {
         requires shown { 0 < shown self.old }
         ensures moved { Moved self.old (Took result.0.number (take result.1 result.0.bytes) ∷ []) self.new }
         ensures fits { result.1 ≤ buffer_size }
+        ensures wide { length result.0.bytes ≡ buffer_size }
         ensures shown { shown self.old ≡ shown self.new + 1 }
         ensures out { out self.new ≡ out self.old ++ result.0.number ∷ [] }
         ensures apart { AreApart (size self.new) (out self.new) }
         ensures room { length (out self.new) + shown self.new ≤ size self.new }
         ensures size { size self.new ≡ size self.old };
 
-    /// Gives back a buffer that is out. A later look of the sender shows it, and it is free again.
+    /// Gives back a buffer that is out, with all its 512 bytes. A later look of the sender shows it, and it is free again.
     fn give_back(&mut self, buffer: Buffer)
         requires out { Contains (out self.old) buffer.number }
+        requires wide { length buffer.bytes ≡ buffer_size }
         ensures moved { Moved self.old (Gave buffer.number ∷ []) self.new }
         ensures shown { shown self.new ≡ shown self.old }
         ensures out { out self.new ≡ without buffer.number (out self.old) }

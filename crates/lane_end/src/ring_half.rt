@@ -1,10 +1,9 @@
 ghost use Rattle.std.specs.Prelude.{◌≡◌, ◌≤◌, ℕ, length};
-ghost use Rattle.mc_base.specs.Limits.{buffer_size};
 ghost use Rattle.shared_words.specs.declared.view.Role.{Role};
-ghost use Rattle.split_ring.specs.Ends.{End, writes, looks_at, takes, IsLeft, HoldsNumber, IsSound};
+ghost use Rattle.split_ring.specs.Ends.{End, writes, looks_at, takes, IsLeft, HoldsBuffer, HasWidth, IsSound};
 ghost use Rattle.lane_end.specs.Opened.{given_length};
 
-use mc_base::{BUFFER_SIZE, Buffer};
+use mc_base::Buffer;
 use split_ring::{Device, Driver, Ring};
 use std::fmt::Debug;
 
@@ -24,27 +23,29 @@ pub trait RingHalf: Debug + Drop {
         ensures shown { (end self.old).shown ≤ (end self.new).shown }
         ensures sound { IsSound role (end self.new) };
 
-    /// Takes the oldest entry shown, of which there must be one: a buffer, and the length written with it, at most 512.
+    /// Takes the oldest entry shown, of which there must be one: a buffer, and the length written with it.
     fn take_next(&mut self, on: &Ring) -> (Buffer, u32)
         requires ring { (end self.old).ring ≡ on.now.ring }
         requires left { IsLeft (end self.old) }
         ensures taken { end self.new ≡ takes (result.0, result.1) (end self.old) }
-        ensures fits { result.1 ≤ buffer_size }
+        ensures fits { result.1 ≤ (end self.old).ring.width }
+        ensures wide { HasWidth (end self.new) result.0 }
         ensures sound { IsSound role (end self.new) };
 
-    /// Writes an entry: a buffer that this half holds, with the length of the frame in it, at most 512.
+    /// Writes an entry: a buffer that this half holds, with the length of the frame in it.
     fn write(&mut self, on: &Ring, buffer: Buffer, len: u32)
         requires ring { (end self.old).ring ≡ on.now.ring }
-        requires holds { HoldsNumber role (end self.old) buffer.number }
-        requires fits { len ≤ buffer_size }
+        requires holds { HoldsBuffer role (end self.old) buffer }
+        requires fits { len ≤ (end self.old).ring.width }
         ensures written { end self.new ≡ writes (buffer, len) (end self.old) }
         ensures sound { IsSound role (end self.new) };
 
-    /// Writes an entry: a buffer that this half holds, without a frame. The driver writes the length 512, and the device 0.
+    /// Writes an entry: a buffer that this half holds, without a frame. The driver writes the length of the whole buffer, and the
+    /// device 0.
     fn write_back(&mut self, on: &Ring, buffer: Buffer)
         requires ring { (end self.old).ring ≡ on.now.ring }
-        requires holds { HoldsNumber role (end self.old) buffer.number }
-        ensures written { end self.new ≡ writes (buffer, given_length role) (end self.old) }
+        requires holds { HoldsBuffer role (end self.old) buffer }
+        ensures written { end self.new ≡ writes (buffer, given_length role (end self.old).ring) (end self.old) }
         ensures sound { IsSound role (end self.new) };
 }
 
@@ -71,7 +72,7 @@ impl RingHalf for Driver {
     }
 
     fn write_back(&mut self, on: &Ring, buffer: Buffer) {
-        self.offer(on, buffer, BUFFER_SIZE as u32);
+        self.offer(on, buffer, on.length());
     }
 }
 

@@ -22,13 +22,13 @@ pub struct RingSend<'a, H: RingHalf> {
 impl<'a, H: RingHalf> Model for RingSend<'a, H> {
     ghost use Rattle.std.specs.VecDeque.{deque_capacity};
     ghost use Rattle.lane_end.specs.RingSender.{RingSender};
-    ghost use Rattle.lane_end.specs.KeptRing.{sender_with, KeepsSender};
+    ghost use Rattle.lane_end.specs.KeptRing.{sender_with, KeepsFree};
 
     ghost Value = { RingSender };
 
     ghost view = { λ s. sender_with H.role (H.end s.half) s.free.items };
 
-    ghost invariant = { λ s. KeepsSender s.on.now (deque_capacity s.free) (sender_with H.role (H.end s.half) s.free.items) };
+    ghost invariant = { λ s. KeepsFree s.on.now (deque_capacity s.free) H.role (H.end s.half) s.free.items };
 }
 
 impl<'a, H: RingHalf> RingSend<'a, H> {

@@ -41,18 +41,18 @@ struck-none [] = refl
 struck-none (g ∷ gs) = struck-none gs
 
 -- at the opening nothing is out, and the half that receives has offered every buffer or none
-abbrev before : Role → ℕ → List Offer
-before Driver size = []
-before Device size = all_with buffer_size size
+abbrev before : Role → RingId → List Offer
+before Driver ring = []
+before Device ring = all_with ring.width (size_of ring)
 
 outs-since : (sender : Role) (ring : RingId) (receives : List ReceiveMove) (r : RingReceiver) → RingReceives (receiver_opened sender ring) receives r → OutMoves (size_of ring) [] receives (out_at r)
 outs-since Driver ring receives r m = m.outs
 outs-since Device ring receives r m = subst (λ (out : List ℕ). OutMoves (size_of ring) out receives (out_at r)) (struck-none (numbers_in (given_entries (receiver_opened Device ring)))) m.outs
 
 written-since : (sender : Role) (ring : RingId) (receives : List ReceiveMove) (r : RingReceiver) → RingReceives (receiver_opened sender ring) receives r
-    → written_by r ≡ before sender (size_of ring) ++ with_lengths (other sender) (numbers_given receives)
+    → written_by r ≡ before sender ring ++ with_lengths (other sender) ring (numbers_given receives)
 written-since Driver ring receives r m = m.written
-written-since Device ring receives r m = m.written ∙ ap (λ (os : List Offer). os ++ with_lengths Driver (numbers_given receives)) (new-whole ring)
+written-since Device ring receives r m = m.written ∙ ap (λ (os : List Offer). os ++ with_lengths Driver ring (numbers_given receives)) (new-whole ring)
 
 lengths-since : (sender : Role) (ring : RingId) (sends : List SendMove) (s : RingSender) → RingSends (sender_opened sender ring) sends s → lengths_by s ≡ map (λ (frame : List ℕ). length frame) (frames_sent sends)
 lengths-since Driver ring sends s m = m.lengths
@@ -94,28 +94,29 @@ module _ (sender : Role) (ring : TableShown) (s : RingSender) (r : RingReceiver)
   used-are = pairs-same (returns_in s.half.written) (numbers_after (size_of ring.ring) places sends).used (numbers-returned s.half.written ∙ sym numbers-used.numbers_are)
       (lengths-returned s.half.written ∙ (lengths-since sender ring.ring sends s sent ∙ sym numbers-used.lengths_are))
 
-  given-are : returns_in r.half.written ≡ before sender (size_of ring.ring) ++ given_with (given_length (other sender)) (numbers_after (size_of ring.ring) places sends).used places
+  given-are : returns_in r.half.written ≡ before sender ring.ring ++ given_with (given_length (other sender) ring.ring) (numbers_after (size_of ring.ring) places sends).used places
   given-are =
       written-since sender ring.ring receives r received
-      ∙ ap (λ (os : List Offer). before sender (size_of ring.ring) ++ os) (sym (given-same (given_length (other sender)) (numbers_after (size_of ring.ring) places sends).used [] places (numbers_given receives)
+      ∙ ap (λ (os : List Offer). before sender ring.ring ++ os) (sym (given-same (given_length (other sender) ring.ring) (numbers_after (size_of ring.ring) places sends).used [] places (numbers_given receives)
       (subst (λ (ns : List ℕ). Early ns [] places (numbers_given receives)) (sym numbers-used.numbers_are) is-early)))
 
 -- the lists of both sides, by the half that sends
-image : (sender : Role) (ring : TableShown) (sending receiving : End) (closed : FinishedRing) (used : ℕ → List Offer) (places : List ℕ) → IsFinishedBetween sender ring sending receiving closed → closed.queue ≡ queue_of sender
-    → returns_in sending.written ≡ used (size_of ring.ring) → returns_in receiving.written ≡ before sender (size_of ring.ring) ++ given_with (given_length (other sender)) (used (size_of ring.ring)) places
+image : (sender : Role) (ring : TableShown) (sending receiving : End) (closed : FinishedRing) (used : ℕ → List Offer) (places : List ℕ) → IsFinishedBetween sender ring sending receiving closed → closed.queue ≡ queue_of sender → closed.width ≡ buffer_size
+    → returns_in sending.written ≡ used (size_of ring.ring) → returns_in receiving.written ≡ before sender ring.ring ++ given_with (given_length (other sender) ring.ring) (used (size_of ring.ring)) places
     → word_image closed.size closed.words ≡ image_left closed.size closed.queue (used closed.size) places
-image Driver ring sending receiving closed used places done queue put gave =
+image Driver ring sending receiving closed used places done queue full put gave =
     let size = sym done.size in
     let one : returns_in sending.written ≡ offered closed.size closed.queue (used closed.size) places = put ∙ (ap used size ∙ ap (λ (q : ℕ). offered closed.size q (used closed.size) places) (sym queue)) in
     let two : returns_in receiving.written ≡ returned closed.queue (used closed.size) places =
     gave ∙ (ap (λ (n : ℕ). given_with 0 (used n) places) size ∙ ap (λ (q : ℕ). returned q (used closed.size) places) (sym queue)) in
-    sym (both_sides ring sending receiving closed done).0 ∙ (λ i. all_written (start_image closed.size closed.queue) (driver_writes closed.size (one i) ++ device_writes closed.size (two i)))
-image Device ring sending receiving closed used places done queue put gave =
+    sym (both_sides ring sending receiving closed done full).0 ∙ (λ i. all_written (start_image closed.size closed.queue) (driver_writes closed.size (one i) ++ device_writes closed.size (two i)))
+image Device ring sending receiving closed used places done queue full put gave =
     let size = sym done.size in
+    let width : ring.ring.width ≡ buffer_size = sym done.width ∙ full in
     let one : returns_in receiving.written ≡ offered closed.size closed.queue (used closed.size) places =
-    gave ∙ (ap (λ (n : ℕ). all_with buffer_size n ++ given_with buffer_size (used n) places) size ∙ ap (λ (q : ℕ). offered closed.size q (used closed.size) places) (sym queue)) in
+    gave ∙ ((λ i. all_with (width i) (size i) ++ given_with (width i) (used (size i)) places) ∙ ap (λ (q : ℕ). offered closed.size q (used closed.size) places) (sym queue)) in
     let two : returns_in sending.written ≡ returned closed.queue (used closed.size) places = put ∙ (ap used size ∙ ap (λ (q : ℕ). returned q (used closed.size) places) (sym queue)) in
-    sym (both_sides ring receiving sending closed done).0 ∙ (λ i. all_written (start_image closed.size closed.queue) (driver_writes closed.size (one i) ++ device_writes closed.size (two i)))
+    sym (both_sides ring receiving sending closed done full).0 ∙ (λ i. all_written (start_image closed.size closed.queue) (driver_writes closed.size (one i) ++ device_writes closed.size (two i)))
 
 pub backs-are-later : BacksAreLater
 backs-are-later sender ring sends receives closed places run gives =
@@ -125,10 +126,10 @@ backs-are-later sender ring sends receives closed places run gives =
     (subst (λ (t : Role × End × End). IsFinishedBetween t.0 ring t.1 t.2 closed) (λ i. (x.role_is i, x.leaves.half_is i, y.leaves.half_is i)) (between ring run.send run.recv closed run.finished)) gives
 
 pub images-are-left : ImagesAreLeft
-images-are-left sender ring sends receives closed places run queue gives =
+images-are-left sender ring sends receives closed places run queue full gives =
     let x = sent-over sender ring.ring sends run.ran.sent.end run.send run.ran.sent.moved run.ran.sent.leaves in
     let y = received-over sender ring.ring receives run.ran.received.end run.recv run.ran.received.moved run.ran.received.leaves in
     let done = subst (λ (t : Role × End × End). IsFinishedBetween t.0 ring t.1 t.2 closed) (λ i. (x.role_is i, x.leaves.half_is i, y.leaves.half_is i)) (between ring run.send run.recv closed run.finished) in
-    image sender ring x.s.half y.r.half closed (λ n. (numbers_after n places sends).used) places done queue
+    image sender ring x.s.half y.r.half closed (λ n. (numbers_after n places sends).used) places done queue full
     (used-are sender ring x.s y.r sends receives closed places x.moved y.moved x.leaves.sender y.leaves.receiver done gives)
     (given-are sender ring x.s y.r sends receives closed places x.moved y.moved x.leaves.sender y.leaves.receiver done gives)

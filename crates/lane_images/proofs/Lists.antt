@@ -1,7 +1,7 @@
 -- What the two halves of a ring wrote, as pairs of a number and a length.
 use Rattle.std.proofs.Common.{◌≡◌, ℕ, zero, suc, ◌+◌, List, [], ◌∷◌, ◌++◌, map, refl, ap, ◌∙◌, arith}
 use Rattle.std.specs.List.{range_with_len}
-use Rattle.mc_base.specs.Limits.{buffer_size}
+use Rattle.std.proofs.lemmas.List.{length-replicate}
 use Rattle.board_model.specs.RingImage.{Offer}
 use Rattle.shared_words.specs.Entry.{Entry, number_of}
 use Rattle.shared_words.specs.Shown.{RingId, size_of}
@@ -37,11 +37,11 @@ given-same bytes used before [] (n ∷ given) e = absurd e
 given-same bytes used before (place ∷ places) [] e = absurd e
 given-same bytes used before (place ∷ places) (n ∷ given) e = λ i. (number-there used place n e.0 i, bytes) ∷ given-same bytes used (before ++ n ∷ []) places given e.2 i
 
-first-whole : (j n : ℕ) → returns_in (whole (map new_buffer (numbers_from j n))) ≡ map (λ (k : ℕ). (k, buffer_size)) (range_with_len j n)
-first-whole j zero = refl
-first-whole j (suc n) = let e : suc j ≡ j + 1 = omega arith in
-    ap (λ (l : List Offer). (j, buffer_size) ∷ l) (first-whole (suc j) n ∙ ap (λ (k : ℕ). map (λ (m : ℕ). (m, buffer_size)) (range_with_len k n)) e)
+first-whole : (width j n : ℕ) → returns_in (whole (map (new_buffer width) (numbers_from j n))) ≡ map (λ (k : ℕ). (k, width)) (range_with_len j n)
+first-whole width j zero = refl
+first-whole width j (suc n) = let e : suc j ≡ j + 1 = omega arith in
+    (λ i. (j, length-replicate {A = ℕ} width 0 i) ∷ (first-whole width (suc j) n ∙ ap (λ (k : ℕ). map (λ (m : ℕ). (m, width)) (range_with_len k n)) e) i)
 
 -- what the driver of queue 0 offers before its lane is open
-pub new-whole : (ring : RingId) → returns_in (whole (new_buffers ring)) ≡ all_with buffer_size (size_of ring)
-new-whole ring = first-whole 0 (size_of ring)
+pub new-whole : (ring : RingId) → returns_in (whole (new_buffers ring)) ≡ all_with ring.width (size_of ring)
+new-whole ring = first-whole ring.width 0 (size_of ring)

@@ -1,6 +1,7 @@
 -- The image with which the finished ring of a lane is left, and when its buffers came back.
 -- Source: VIRTIO 1.2, section 2.7; docs/PROFILE.md, "Lanes"; docs/FORMATS.md, "Ring lines".
 use Rattle.std.specs.Prelude.{◌≡◌, ℕ, List, []}
+use Rattle.mc_base.specs.Limits.{buffer_size}
 use Rattle.shared_words.specs.Shown.{TableShown}
 use Rattle.shared_words.specs.declared.view.Role.{Role}
 use Rattle.shared_words.specs.declared.view.Role.TheVariants.{Driver, Device}
@@ -40,7 +41,7 @@ AreLater sends places = ComeBackLater places 0 (sendings sends)
 abbrev pub ImagesAreLeft : Type 0
 ImagesAreLeft =
     (sender : Role) (ring : TableShown) (sends : List SendMove) (receives : List ReceiveMove) (closed : FinishedRing) (places : List ℕ)
-    → WasRun sender ring sends receives closed → closed.queue ≡ queue_of sender → GivesAt [] places receives → HasImage sends closed places
+    → WasRun sender ring sends receives closed → closed.queue ≡ queue_of sender → closed.width ≡ buffer_size → GivesAt [] places receives → HasImage sends closed places
 
 abbrev pub BacksAreLater : Type 0
 BacksAreLater =

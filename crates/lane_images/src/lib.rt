@@ -11,7 +11,8 @@ pub fn backs_are_later()
     ensures { BacksAreLater }
 {}
 
-/// Shows which image the finished ring of a lane is left with. The function has no code: its contract is what it shows.
+/// Shows which image the finished ring of a lane is left with, where its buffers have 512 bytes. The function has no code: its
+/// contract is what it shows.
 #[tactic(none)]
 pub fn images_are_left()
     ensures { ImagesAreLeft }

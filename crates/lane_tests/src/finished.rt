@@ -34,7 +34,7 @@ fn finishes_from_driver(alloc: Global) -> Result<Closed, Fail>
     ensures { IfOk result (λ c. (xs : List SendMove) × (ys : List ReceiveMove) × IsLaneRun role.Driver 8 xs ys c) }
 {
     halves_stay_of_one_ring();
-    let (ring, driver, device, buffers) = Ring::new(alloc, 1, 8)?;
+    let (ring, driver, device, buffers) = Ring::new(alloc, 1, 8, 512)?;
     let Ok((send, recv)) = open_queue1(&ring, driver, device, buffers) else {
         unreachable!()
     };
@@ -51,7 +51,7 @@ fn finishes_from_device(alloc: Global) -> Result<Closed, Fail>
     ensures { IfOk result (λ c. (xs : List SendMove) × (ys : List ReceiveMove) × IsLaneRun role.Device 8 xs ys c) }
 {
     halves_stay_of_one_ring();
-    let (ring, driver, device, buffers) = Ring::new(alloc, 0, 8)?;
+    let (ring, driver, device, buffers) = Ring::new(alloc, 0, 8, 512)?;
     let Ok((send, recv)) = open_queue0(&ring, driver, device, buffers) else {
         unreachable!()
     };
@@ -128,7 +128,7 @@ fn keeps_one<H: RingHalf, G: RingHalf>(send: &mut RingSend<'_, H>, recv: &mut Ri
 
 /// The ring of a lane from the driver, finished after this from the halves of its ends.
 fn keeps_one_from_driver(alloc: Global) -> Result<Closed, Fail> {
-    let (ring, driver, device, buffers) = Ring::new(alloc, 1, 4)?;
+    let (ring, driver, device, buffers) = Ring::new(alloc, 1, 4, 512)?;
     let Ok((mut send, mut recv)) = open_queue1(&ring, driver, device, buffers) else {
         unreachable!()
     };
@@ -140,7 +140,7 @@ fn keeps_one_from_driver(alloc: Global) -> Result<Closed, Fail> {
 
 /// The ring of a lane from the device, finished after the same.
 fn keeps_one_from_device(alloc: Global) -> Result<Closed, Fail> {
-    let (ring, driver, device, buffers) = Ring::new(alloc, 0, 4)?;
+    let (ring, driver, device, buffers) = Ring::new(alloc, 0, 4, 512)?;
     let Ok((mut send, mut recv)) = open_queue0(&ring, driver, device, buffers) else {
         unreachable!()
     };

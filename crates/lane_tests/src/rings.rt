@@ -48,7 +48,7 @@ fn assert_play(rt: &impl Abort, mut lane: Pair<'_>, size: u32, play: Play) {
 fn assert_over(rt: &impl Abort, alloc: Global, queue: u8, size: u32, play: Play) -> Result<(), Fail>
     requires { queue ≤ 1 }
 {
-    let (ring, driver, device, buffers) = Ring::new(alloc, queue, size)?;
+    let (ring, driver, device, buffers) = Ring::new(alloc, queue, size, 512)?;
     let lane = Pair::open(&ring, queue, driver, device, buffers);
     assert_play(rt, lane, size, play);
     Ok(())

@@ -1,6 +1,6 @@
 -- The numbers that the definitions rest on.
 -- Source: the limits of docs/PROFILE.md, the RPMsg headers of Linux, and VIRTIO 1.2, section 2.7.
-use Rattle.std.specs.Prelude.{ℕ, ◌+◌, ◌-◌}
+use Rattle.std.specs.Prelude.{◌≡◌, ℕ, ◌+◌, ◌-◌, ◌%◌, ◌≤◌}
 
 -- the most domains of a board, and the highest number of one: they are numbered from 0
 abbrev pub domain_limit : ℕ
@@ -16,14 +16,29 @@ node_limit = 16
 abbrev pub last_node : ℕ
 last_node = node_limit - 1
 
--- the most buffers of a ring, and of a domain's own pool
+-- the most buffers of a ring
 abbrev pub ring_limit : ℕ
-ring_limit = 256
+ring_limit = 32768
+
+-- the most buffers of each ring of a board's link, and of a domain's own pool
+abbrev pub link_limit : ℕ
+link_limit = 256
 
 abbrev pub pool_limit : ℕ
 pool_limit = 256
 
--- the bytes of a buffer
+-- the fewest and the most bytes of a buffer
+abbrev pub shortest_buffer : ℕ
+shortest_buffer = 64
+
+abbrev pub longest_buffer : ℕ
+longest_buffer = 4096
+
+-- the numbers of bytes that the buffers of a ring can have: the multiples of 64 from 64 to 4096
+abbrev pub IsBufferLength : ℕ → Type 0
+IsBufferLength w = (shortest_buffer ≤ w) × (w ≤ longest_buffer) × (w % shortest_buffer ≡ 0)
+
+-- the bytes of a buffer of a link
 abbrev pub buffer_size : ℕ
 buffer_size = 512
 

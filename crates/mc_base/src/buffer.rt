@@ -1,12 +1,12 @@
-ghost use Rattle.std.specs.Prelude.{◌≡◌, IfOk, length, replicate, vec_len};
+ghost use Rattle.std.specs.Prelude.{◌≡◌, ◌≤◌, IfOk, length, replicate};
 ghost use Rattle.std.specs.Borrow.{sem};
-ghost use Rattle.mc_base.specs.Limits.{buffer_size};
+ghost use Rattle.mc_base.specs.Limits.{buffer_size, shortest_buffer, longest_buffer};
 
 use crate::{BUFFER_SIZE, NoMemory};
 use std::alloc::Global;
 use std::marker::Model;
 
-/// A numbered buffer of 512 bytes, which moves by value: the handle has 16 bytes.
+/// A numbered buffer of 64 to 4,096 bytes, which moves by value: the handle has 16 bytes. It keeps its length.
 #[derive(Debug, Drop)]
 pub struct Buffer {
     number: u16,
@@ -14,15 +14,15 @@ pub struct Buffer {
 }
 
 impl Model for Buffer {
-    ghost use Rattle.std.specs.Prelude.{◌≡◌, vec_len};
-    ghost use Rattle.mc_base.specs.Limits.{buffer_size};
+    ghost use Rattle.std.specs.Prelude.{◌≤◌, vec_len};
+    ghost use Rattle.mc_base.specs.Limits.{shortest_buffer, longest_buffer};
     ghost use Rattle.mc_base.specs.Stored.{Stored};
 
     ghost Value = { Stored };
 
     ghost view = { λ b. record { number = b.number; bytes = b.bytes.value.items } };
 
-    ghost invariant = { λ b. vec_len b.bytes.value ≡ buffer_size };
+    ghost invariant = { λ b. (shortest_buffer ≤ vec_len b.bytes.value) × (vec_len b.bytes.value ≤ longest_buffer) };
 }
 
 impl Buffer {
@@ -37,7 +37,20 @@ impl Buffer {
         ensures number { IfOk result (λ b. b.number ≡ number) }
         ensures zeros { IfOk result (λ b. b.bytes ≡ replicate buffer_size 0) }
     {
-        let Ok(zeros) = Vec::from_elem(alloc, 0u8, BUFFER_SIZE) else {
+        Buffer::sized(alloc, number, BUFFER_SIZE as u32)
+    }
+
+    /// Makes a buffer of `length` zero bytes with this number.
+    ///
+    /// # Errors
+    ///
+    /// `NoMemory` where an allocation fails.
+    pub fn sized(alloc: Global, number: u16, length: u32) -> Result<Buffer, NoMemory>
+        requires lawful { (shortest_buffer ≤ length) × (length ≤ longest_buffer) }
+        ensures number { IfOk result (λ b. b.number ≡ number) }
+        ensures zeros { IfOk result (λ b. b.bytes ≡ replicate length 0) }
+    {
+        let Ok(zeros) = Vec::from_elem(alloc, 0u8, length as usize) else {
             return Err(NoMemory);
         };
         let Ok(bytes) = Box::new(alloc, zeros) else {
@@ -53,19 +66,19 @@ impl Buffer {
         self.number
     }
 
-    /// Lends the 512 bytes.
+    /// Lends all its bytes.
     pub fn bytes(&self) -> &[u8]
         ensures value { result.now ≡ self.now.bytes }
-        ensures len { length result.now ≡ buffer_size }
+        ensures len { (shortest_buffer ≤ length result.now) × (length result.now ≤ longest_buffer) }
     {
         self.bytes.as_slice()
     }
 
-    /// Lends the 512 bytes for writing.
+    /// Lends all its bytes for writing.
     pub fn bytes_mut(&mut self) -> &mut [u8]
         ensures* writes_back { sem 𝓛 (LendsBytes self.entry result) }
         ensures value { result.now ≡ self.old.bytes }
-        ensures len { length result.now ≡ buffer_size }
+        ensures len { (shortest_buffer ≤ length result.now) × (length result.now ≤ longest_buffer) }
     {
         self.bytes.as_mut_slice()
     }

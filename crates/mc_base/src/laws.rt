@@ -3,15 +3,17 @@ ghost use Rattle.mc_base.specs.Limits as limit;
 ghost use Rattle.mc_base.specs.NameMap.{names_limit};
 
 use crate::limits::{
-    BUFFER_SIZE, FIRST_ADDRESS, FRAME_HEADER_SIZE, ITEM_SIZE, LETTER_HEADER_SIZE, LONGEST_FRAME,
-    MAX_ASKED, MAX_CHANNELS, MAX_DOMAINS, MAX_ENDPOINTS, MAX_ENDPOINTS_EVER, MAX_NODES,
-    MAX_OWED_ANNOUNCEMENTS, MAX_OWED_REPLIES, MAX_POOL, MAX_REQUESTS, MAX_RING_SIZE,
-    NAME_SERVICE_ADDRESS, NAME_SIZE, NAMES_KNOWN, NS_SIZE, PIECE_SIZE, POOL_BUFFER_SIZE,
-    SINGLE_SIZE, TURN_FRAMES,
+    BUFFER_SIZE, FIRST_ADDRESS, FRAME_HEADER_SIZE, ITEM_SIZE, LETTER_HEADER_SIZE, LONGEST_BUFFER,
+    LONGEST_FRAME, MAX_ASKED, MAX_CHANNELS, MAX_DOMAINS, MAX_ENDPOINTS, MAX_ENDPOINTS_EVER,
+    MAX_LINK_SIZE, MAX_NODES, MAX_OWED_ANNOUNCEMENTS, MAX_OWED_REPLIES, MAX_POOL, MAX_REQUESTS,
+    MAX_RING_SIZE, NAME_SERVICE_ADDRESS, NAME_SIZE, NAMES_KNOWN, NS_SIZE, PIECE_SIZE,
+    POOL_BUFFER_SIZE, SHORTEST_BUFFER, SINGLE_SIZE, TURN_FRAMES,
 };
 
 /// Each constant is the number that the definitions rest on.
 pub fn limits_are_those_defined()
+    ensures shortest { SHORTEST_BUFFER ≡ limit.shortest_buffer }
+    ensures longest { LONGEST_BUFFER ≡ limit.longest_buffer }
     ensures buffer { BUFFER_SIZE ≡ limit.buffer_size }
     ensures pool_buffer { POOL_BUFFER_SIZE ≡ limit.pool_buffer_size }
     ensures frame { LONGEST_FRAME ≡ limit.longest_frame }
@@ -32,6 +34,7 @@ pub fn limits_are_those_defined()
     ensures domains { MAX_DOMAINS ≡ limit.domain_limit }
     ensures nodes { MAX_NODES ≡ limit.node_limit }
     ensures ring { MAX_RING_SIZE ≡ limit.ring_limit }
+    ensures link { MAX_LINK_SIZE ≡ limit.link_limit }
     ensures pool { MAX_POOL ≡ limit.pool_limit }
     ensures channels { MAX_CHANNELS ≡ limit.channel_limit }
     ensures owed_replies { MAX_OWED_REPLIES ≡ limit.reply_limit }

@@ -1,4 +1,10 @@
-/// How many bytes a buffer has.
+/// How many bytes a buffer has at least. The length of a ring's buffers is a multiple of it.
+pub const SHORTEST_BUFFER: u32 = 64;
+
+/// How many bytes a buffer has at most.
+pub const LONGEST_BUFFER: u32 = 4096;
+
+/// How many bytes a buffer of a link has.
 pub const BUFFER_SIZE: usize = 512;
 
 /// How many bytes a buffer of a domain's own pool has.
@@ -62,7 +68,10 @@ pub const MAX_OWED_REPLIES: usize = 64;
 pub const MAX_OWED_ANNOUNCEMENTS: usize = 128;
 
 /// How many buffers a ring has at most.
-pub const MAX_RING_SIZE: u32 = 256;
+pub const MAX_RING_SIZE: u32 = 32_768;
+
+/// How many buffers each ring of a board's link has at most.
+pub const MAX_LINK_SIZE: u32 = 256;
 
 /// How many buffers a domain has at most for messages inside it.
 pub const MAX_POOL: u32 = 256;

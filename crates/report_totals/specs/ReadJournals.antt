@@ -2,7 +2,7 @@
 -- Source: docs/FORMATS.md, "Report" and "Images of rings".
 use Rattle.std.specs.Prelude.{◌≡◌, ℕ, ◌<◌, ◌≤◌, ◌==◌, List, if◌then◌else◌}
 use Rattle.std.specs.List.{AllByRecursion}
-use Rattle.mc_base.specs.Limits.{domain_limit, ring_limit}
+use Rattle.mc_base.specs.Limits.{domain_limit, link_limit}
 use Rattle.board_model.specs.declared.scenario.LinkLine.{LinkLine}
 use Rattle.board_model.specs.declared.scenario.Scenario.{Scenario}
 use Rattle.ring_numbers.specs.RingLists.{image_left}
@@ -22,7 +22,7 @@ pub record IsSized (s : Scenario) (l : LinkLine) : Type 0 where
   pub driver : l.driver < domain_limit
   pub device : l.device < domain_limit
   pub some_buffers : 1 ≤ l.size
-  pub buffers_fit : l.size ≤ ring_limit
+  pub buffers_fit : l.size ≤ link_limit
 
 -- they are those of a board with these links, or with such a lane
 pub record ReadsLinks (ls : List LinkLine) (r : ReadJournals) : Type 0 where
@@ -39,7 +39,7 @@ pub record ReadsLane (r : ReadJournals) (size from to : ℕ) : Type 0 where
   pub sender : from < domain_limit
   pub receiver : to < domain_limit
   pub some_buffers : 1 ≤ size
-  pub buffers_fit : size ≤ ring_limit
+  pub buffers_fit : size ≤ link_limit
 
 -- the image of a ring, by the lines of the texts
 abbrev pub ring_told : Scenario → List JournalText → ℕ → ℕ → ℕ → ℕ → List ℕ

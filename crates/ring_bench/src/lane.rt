@@ -24,7 +24,7 @@ impl Mode {
 
 /// How many buffers came back from the device in rounds over queue 1, where there is a lane of this size.
 pub fn from_driver(alloc: Global, mode: Mode, size: u32, rounds: u32) -> Option<u64> {
-    let Ok((ring, driver, device, buffers)) = Ring::new(alloc, 1, size) else {
+    let Ok((ring, driver, device, buffers)) = Ring::new(alloc, 1, size, 512) else {
         return None;
     };
     let Ok((mut send, mut recv)) = open_queue1(&ring, driver, device, buffers) else {
@@ -35,7 +35,7 @@ pub fn from_driver(alloc: Global, mode: Mode, size: u32, rounds: u32) -> Option<
 
 /// How many came back from the driver in rounds over queue 0.
 pub fn from_device(alloc: Global, mode: Mode, size: u32, rounds: u32) -> Option<u64> {
-    let Ok((ring, driver, device, buffers)) = Ring::new(alloc, 0, size) else {
+    let Ok((ring, driver, device, buffers)) = Ring::new(alloc, 0, size, 512) else {
         return None;
     };
     let Ok((mut send, mut recv)) = open_queue0(&ring, driver, device, buffers) else {

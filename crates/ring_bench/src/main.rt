@@ -37,7 +37,7 @@ fn reclaimed<R: Threads + Sync + AllocGlobal>(
     rounds: u32,
 ) -> Result<Option<u64>, AllocError> {
     let alloc = rt.alloc();
-    let Ok((ring, driver, device, buffers)) = Ring::new(alloc, 1, size) else {
+    let Ok((ring, driver, device, buffers)) = Ring::new(alloc, 1, size, 512) else {
         return Ok(None);
     };
     let closed = match mode {

@@ -1,7 +1,8 @@
 //! Both halves on one thread.
-ghost use Rattle.std.specs.Prelude.{◌≡◌, IfSome};
+ghost use Rattle.std.specs.Prelude.{◌≡◌, ◌≤◌, IfSome};
+ghost use Rattle.mc_base.specs.Limits.{shortest_buffer};
 ghost use Rattle.shared_words.specs.declared.view.Role.TheVariants as role;
-ghost use Rattle.split_ring.specs.Ends.{AreHeld, HoldsNumber};
+ghost use Rattle.split_ring.specs.Ends.{AreHeld, HoldsBuffer};
 
 use crate::length::length;
 use mc_base::Buffer;
@@ -15,7 +16,8 @@ fn rounds_of(
     rounds: u32,
 )
     requires rings { (driver.old.ring ≡ on.now.ring) × (device.old.ring ≡ on.now.ring) }
-    requires held { IfSome hand (λ b. HoldsNumber role.Driver driver.old b.number) }
+    requires held { IfSome hand (λ b. HoldsBuffer role.Driver driver.old b) }
+    requires wide { shortest_buffer ≤ on.now.ring.width }
     ensures { (driver.new.ring ≡ on.now.ring) × (device.new.ring ≡ on.now.ring) }
 {
     for round in 0..rounds {
@@ -42,6 +44,7 @@ pub fn run(
 ) -> Closed
     requires rings { (driver.ring ≡ ring.ring) × (device.ring ≡ ring.ring) }
     requires held { AreHeld role.Driver driver buffers.items }
+    requires wide { shortest_buffer ≤ ring.ring.width }
 {
     let hand = buffers.pop();
     rounds_of(&ring, &mut driver, &mut device, hand, rounds);

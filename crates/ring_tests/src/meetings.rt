@@ -36,7 +36,7 @@ fn refill(on: &Ring, driver: &mut Driver, count: u32) -> bool
 // Whether a ring of four, all of which were offered, is left as it must be: the device serves two and the driver refills them,
 // each after a meeting.
 fn is_moved_by_meetings(alloc: Global) -> bool {
-    let Ok((ring, driver, mut device, buffers)) = Ring::new(alloc, 1, 4) else {
+    let Ok((ring, driver, mut device, buffers)) = Ring::new(alloc, 1, 4, 512) else {
         return false;
     };
     let mut driver = offer_all(&ring, driver, buffers);
@@ -83,7 +83,7 @@ fn looks_between(on: &Ring, driver: &mut Driver, device: &mut Device) -> [u32; 6
 
 // Whether looks at a ring of four, all of which were offered, answer what they must.
 fn are_looks_due(alloc: Global) -> bool {
-    let Ok((ring, driver, mut device, buffers)) = Ring::new(alloc, 0, 4) else {
+    let Ok((ring, driver, mut device, buffers)) = Ring::new(alloc, 0, 4, 512) else {
         return false;
     };
     let mut driver = offer_all(&ring, driver, buffers);
@@ -126,7 +126,7 @@ fn has_wrapped(closed: &Closed) -> bool {
 
 // Whether 70,000 rounds over a ring of 256 leave it so.
 fn wraps(alloc: Global) -> bool {
-    let Ok((ring, driver, mut device, buffers)) = Ring::new(alloc, 1, 256) else {
+    let Ok((ring, driver, mut device, buffers)) = Ring::new(alloc, 1, 256, 512) else {
         return false;
     };
     let mut driver = offer_all(&ring, driver, buffers);

@@ -1,6 +1,6 @@
 ghost use Rattle.std.specs.Prelude.{◌≡◌, IfSome, OnOk};
 ghost use Rattle.shared_words.specs.declared.view.Role.TheVariants as role;
-ghost use Rattle.split_ring.specs.Ends.{HoldsNumber, AreHeld, IsSound};
+ghost use Rattle.split_ring.specs.Ends.{HoldsBuffer, AreHeld, IsSound};
 
 use mc_base::Buffer;
 use shared_words::{Field, word_of};
@@ -10,7 +10,7 @@ use std::collections::VecDeque;
 use std::test::Fail;
 use std::thread::join;
 
-// Offers the buffers, the last first, with lengths from 0 on.
+// Offers the buffers, the last first, with lengths from 0 to 63 in turn, which fit the buffers of every ring.
 pub(crate) fn offer_all(on: &Ring, mut driver: Driver, mut buffers: Vec<Buffer>) -> Driver
     requires ring { driver.ring ≡ on.now.ring }
     requires held { AreHeld role.Driver driver buffers.items }
@@ -19,7 +19,7 @@ pub(crate) fn offer_all(on: &Ring, mut driver: Driver, mut buffers: Vec<Buffer>)
     let mut len = 0;
     while let Some(buffer) = buffers.pop() {
         driver.offer(on, buffer, len);
-        len = (len + 1) % 256;
+        len = (len + 1) % 64;
     }
     driver
 }
@@ -34,7 +34,7 @@ fn fetches_in_order(on: &Ring, mut device: Device, size: u32) -> bool
             break;
         }
         if let Some((buffer, len)) = device.fetch(on) {
-            if u32::from(buffer.number()) != size - 1 - next || len != next {
+            if u32::from(buffer.number()) != size - 1 - next || len != next % 64 {
                 return false;
             }
             next += 1;
@@ -46,7 +46,7 @@ fn fetches_in_order(on: &Ring, mut device: Device, size: u32) -> bool
 #[test]
 fn two_threads_keep_the_order(rt: HostRuntime) -> Result<(), Fail> {
     may_cross_threads();
-    let (ring, driver, device, buffers) = Ring::new(rt.alloc(), 1, 256)?;
+    let (ring, driver, device, buffers) = Ring::new(rt.alloc(), 1, 256, 512)?;
     let (_, is_in_order) = join(
         &rt,
         || offer_all(&ring, driver, buffers),
@@ -66,7 +66,7 @@ fn fetches_none(on: &Ring, device: &mut Device) -> bool
 
 /// Whether a new ring of this size shows nothing, and then all that is offered, in that order.
 fn keeps_the_order(alloc: Global, size: u32) -> bool {
-    let Ok((ring, driver, mut device, buffers)) = Ring::new(alloc, 0, size) else {
+    let Ok((ring, driver, mut device, buffers)) = Ring::new(alloc, 0, size, 64) else {
         return false;
     };
     let is_empty = fetches_none(&ring, &mut device);
@@ -77,27 +77,37 @@ fn keeps_the_order(alloc: Global, size: u32) -> bool {
 
 #[test]
 fn the_least_and_the_greatest_size(rt: HostRuntime) {
-    for size in [2, 256] {
+    for size in [2, 256, 32_768] {
         assert!(rt; keeps_the_order(rt.alloc(), size), "{size}");
     }
 }
 
-/// Whether a ring of this queue and size is refused: for its size, or else for its queue.
-fn is_refused(alloc: Global, queue: u8, size: u32, for_size: bool) -> bool {
-    match Ring::new(alloc, queue, size).err() {
-        Some(RingFault::Size) => for_size,
-        Some(RingFault::Queue) => !for_size,
-        _ => false,
+/// Which of the queue, the size and the length a ring is refused for, if it is.
+fn refused_for(alloc: Global, queue: u8, size: u32, length: u32) -> Option<&'static str> {
+    match Ring::new(alloc, queue, size, length).err() {
+        Some(RingFault::Queue) => Some("queue"),
+        Some(RingFault::Size) => Some("size"),
+        Some(RingFault::Length) => Some("length"),
+        _ => None,
     }
 }
 
-/// Queues and sizes, and whether the size is what is refused.
-static REFUSED: [(u8, u32, bool); 3] = [(1, 3, true), (2, 2, false), (2, 3, false)];
+static REFUSED: [(u8, u32, u32, &str); 6] = [
+    (2, 2, 512, "queue"),
+    (2, 3, 65, "queue"),
+    (1, 3, 512, "size"),
+    (1, 65_536, 65, "size"),
+    (1, 2, 65, "length"),
+    (0, 32_768, 4160, "length"),
+];
 
 #[test]
-fn other_queues_and_sizes_are_refused(rt: HostRuntime) {
-    for (queue, size, for_size) in &REFUSED {
-        assert!(rt; is_refused(rt.alloc(), *queue, *size, *for_size), "{size}");
+fn the_first_that_is_unlawful_is_refused(rt: HostRuntime) {
+    for (queue, size, length, fault) in &REFUSED {
+        assert!(rt;
+            refused_for(rt.alloc(), *queue, *size, *length) == Some(*fault),
+            "{size} {length}"
+        );
     }
 }
 
@@ -117,7 +127,7 @@ fn serve_one(on: &Ring, device: &mut Device) -> bool
 fn reclaim_one(on: &Ring, driver: &mut Driver) -> Option<Buffer>
     requires { driver.old.ring ≡ on.now.ring }
     ensures ring { driver.new.ring ≡ on.now.ring }
-    ensures held { IfSome result (λ b. HoldsNumber role.Driver driver.new b.number) }
+    ensures held { IfSome result (λ b. HoldsBuffer role.Driver driver.new b) }
 {
     match driver.reclaim(on) {
         Some((buffer, 0)) => Some(buffer),
@@ -128,7 +138,7 @@ fn reclaim_one(on: &Ring, driver: &mut Driver) -> Option<Buffer>
 // Rounds on one thread: how many went right.
 fn rounds(on: &Ring, driver: &mut Driver, device: &mut Device, first: Buffer, count: u32) -> u32
     requires rings { (driver.old.ring ≡ on.now.ring) × (device.old.ring ≡ on.now.ring) }
-    requires held { HoldsNumber role.Driver driver.old first.number }
+    requires held { HoldsBuffer role.Driver driver.old first }
     ensures rings { (driver.new.ring ≡ on.now.ring) × (device.new.ring ≡ on.now.ring) }
 {
     let mut hand = Some(first);
@@ -148,7 +158,7 @@ fn rounds(on: &Ring, driver: &mut Driver, device: &mut Device, first: Buffer, co
 // The driver's rounds on a thread of its own. It tries until it has its buffer.
 fn drive(on: &Ring, mut driver: Driver, first: Buffer, count: u32) -> Driver
     requires ring { driver.ring ≡ on.now.ring }
-    requires held { HoldsNumber role.Driver driver first.number }
+    requires held { HoldsBuffer role.Driver driver first }
     ensures { result.ring ≡ on.now.ring }
 {
     let mut hand = Some(first);
@@ -209,7 +219,7 @@ fn looked_each_round(closed: &Closed) -> bool {
 
 // Whether 70,000 rounds on one thread leave a ring of two so.
 fn goes_round(alloc: Global) -> bool {
-    let Ok((ring, mut driver, mut device, mut buffers)) = Ring::new(alloc, 1, 2) else {
+    let Ok((ring, mut driver, mut device, mut buffers)) = Ring::new(alloc, 1, 2, 512) else {
         return false;
     };
     let done = rounds(&ring, &mut driver, &mut device, buffers.remove(1), 70_000);
@@ -222,9 +232,52 @@ fn seventy_thousand_rounds_on_one_thread(rt: HostRuntime) {
     assert!(rt; goes_round(rt.alloc()));
 }
 
+// Rounds with the last of these buffers.
+fn rounds_of_last(
+    on: &Ring,
+    driver: &mut Driver,
+    device: &mut Device,
+    mut buffers: Vec<Buffer>,
+    count: u32,
+) -> u32
+    requires rings { (driver.old.ring ≡ on.now.ring) × (device.old.ring ≡ on.now.ring) }
+    requires held { AreHeld role.Driver driver.old buffers.items }
+    ensures rings { (driver.new.ring ≡ on.now.ring) × (device.new.ring ≡ on.now.ring) }
+{
+    let Some(last) = buffers.pop() else {
+        return 0;
+    };
+    rounds(on, driver, device, last, count)
+}
+
+// Whether both index words are 70,000 modulo 65,536, and the driver holds all 32,768 buffers of 64 bytes.
+fn is_greatest_at_rest(closed: &Closed) -> bool {
+    let words = closed.words();
+    words.get(word_of(32_768, Field::AvailIdx)) == Some(&4464)
+        && words.get(word_of(32_768, Field::UsedIdx)) == Some(&4464)
+        && closed.size() == 32_768
+        && closed.length() == 64
+        && closed.driver_held().len() == 32_768
+}
+
+// Whether 70,000 rounds on one thread leave the greatest ring of the shortest buffers so.
+fn greatest_goes_round(alloc: Global) -> bool {
+    let Ok((ring, mut driver, mut device, buffers)) = Ring::new(alloc, 1, 32_768, 64) else {
+        return false;
+    };
+    let done = rounds_of_last(&ring, &mut driver, &mut device, buffers, 70_000);
+    let closed = ring.finish(driver, device);
+    done == 70_000 && is_greatest_at_rest(&closed)
+}
+
+#[test]
+fn seventy_thousand_rounds_on_the_greatest_ring(rt: HostRuntime) {
+    assert!(rt; greatest_goes_round(rt.alloc()));
+}
+
 #[test]
 fn seventy_thousand_rounds_on_two_threads(rt: HostRuntime) -> Result<(), Fail> {
-    let (ring, driver, device, mut buffers) = Ring::new(rt.alloc(), 1, 2)?;
+    let (ring, driver, device, mut buffers) = Ring::new(rt.alloc(), 1, 2, 512)?;
     let first = buffers.remove(1);
     let (driver, device) = join(
         &rt,
@@ -324,7 +377,7 @@ fn reclaims_as_given(
 
 /// The same over a new ring of eight buffers, all of which are offered.
 fn come_back_as_given(alloc: Global, turned: usize) -> bool {
-    let Ok((ring, driver, mut device, buffers)) = Ring::new(alloc, 0, 8) else {
+    let Ok((ring, driver, mut device, buffers)) = Ring::new(alloc, 0, 8, 512) else {
         return false;
     };
     let mut driver = offer_all(&ring, driver, buffers);

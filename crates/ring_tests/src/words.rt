@@ -1,4 +1,5 @@
-ghost use Rattle.std.specs.Prelude.{◌≡◌, ◌≤◌};
+ghost use Rattle.std.specs.Prelude.{◌≡◌, ◌≤◌, length};
+ghost use Rattle.mc_base.specs.Limits.{longest_buffer};
 ghost use Rattle.shared_words.specs.declared.view.Role.TheVariants as role;
 ghost use Rattle.shared_words.specs.declared.view.Staged.TheVariants.{Idle};
 ghost use Rattle.shared_words.specs.Shown.{IsHalfOf, HoldsNumber};
@@ -58,7 +59,8 @@ fn the_words_are_those_of_the_layout(rt: HostRuntime) {
 fn offer(table: &RingTable, driver: &mut Half, buffer: Buffer)
     requires driver { IsHalfOf table.now role.Driver driver.old × (driver.old.view.staged ≡ Idle) }
     requires holds { (buffer.number ≡ 1) × HoldsNumber driver.old 1 }
-    requires fits { 26 ≤ table.now.ring.longest }
+    requires fits { 26 ≤ table.now.ring.width }
+    requires bytes { length buffer.bytes ≡ table.now.ring.width }
     ensures { IsHalfOf table.now role.Driver driver.new × (driver.new.view.staged ≡ Idle) }
 {
     table.put_len(driver, 1, 26);
@@ -81,7 +83,7 @@ fn is_fetched(table: &RingTable, device: &mut Half) -> bool
 
 // Whether an offer over new words is fetched as it was made, and all of them come back.
 fn goes_over(alloc: Global) -> bool {
-    let Ok((table, mut driver, mut device, mut buffers)) = RingTable::new(alloc, 1, 2) else {
+    let Ok((table, mut driver, mut device, mut buffers)) = RingTable::new(alloc, 1, 2, 512) else {
         return false;
     };
     offer(&table, &mut driver, buffers.remove(1));
@@ -96,29 +98,67 @@ fn an_offer_is_fetched_step_by_step(rt: HostRuntime) {
     assert!(rt; goes_over(rt.alloc()));
 }
 
-/// Whether the words of this queue and size are refused: for the size, or else for the queue.
-fn is_refused(alloc: Global, queue: u8, size: u32, for_size: bool) -> bool {
-    match RingTable::new(alloc, queue, size).err() {
-        Some(RingFault::Size) => for_size,
-        Some(RingFault::Queue) => !for_size,
-        _ => false,
+/// Which of the queue, the size and the length the words are refused for, if they are.
+fn refused_for(alloc: Global, queue: u8, size: u32, length: u32) -> Option<&'static str> {
+    match RingTable::new(alloc, queue, size, length).err() {
+        Some(RingFault::Queue) => Some("queue"),
+        Some(RingFault::Size) => Some("size"),
+        Some(RingFault::Length) => Some("length"),
+        _ => None,
     }
 }
 
-/// Queues and sizes, and whether the size is what is refused.
-static REFUSED: [(u8, u32, bool); 7] = [
-    (0, 0, true),
-    (0, 1, true),
-    (0, 3, true),
-    (0, 257, true),
-    (0, 512, true),
-    (2, 2, false),
-    (2, 3, false),
+static REFUSED: [(u8, u32, &str); 9] = [
+    (0, 0, "size"),
+    (0, 1, "size"),
+    (0, 3, "size"),
+    (0, 257, "size"),
+    (0, 32_767, "size"),
+    (0, 32_769, "size"),
+    (0, 65_536, "size"),
+    (2, 2, "queue"),
+    (2, 3, "queue"),
 ];
 
 #[test]
 fn other_queues_and_sizes_are_refused(rt: HostRuntime) {
-    for (queue, size, for_size) in &REFUSED {
-        assert!(rt; is_refused(rt.alloc(), *queue, *size, *for_size), "{size}");
+    for (queue, size, fault) in &REFUSED {
+        assert!(rt;
+            refused_for(rt.alloc(), *queue, *size, 512) == Some(*fault),
+            "{size}"
+        );
+        assert!(rt;
+            refused_for(rt.alloc(), *queue, *size, 100) == Some(*fault),
+            "{size}"
+        );
+    }
+}
+
+static SIZES: [u32; 15] = [
+    2, 4, 8, 16, 32, 64, 128, 256, 512, 1024, 2048, 4096, 8192, 16_384, 32_768,
+];
+
+#[test]
+fn every_power_of_two_up_to_32768_is_a_size(rt: HostRuntime) {
+    for size in &SIZES {
+        assert!(rt; refused_for(rt.alloc(), 0, *size, 64).is_none(), "{size}");
+    }
+}
+
+/// Whether each length above this one, below the next multiple of 64, is refused.
+fn all_between_are_refused(alloc: Global, multiple: u32) -> bool
+    requires { multiple ≤ longest_buffer }
+{
+    (multiple + 1..multiple + 64).all(|length| refused_for(alloc, 1, 2, length) == Some("length"))
+}
+
+#[test]
+fn only_multiples_of_64_up_to_4096_are_lengths(rt: HostRuntime) {
+    assert!(rt; refused_for(rt.alloc(), 1, 2, 0) == Some("length"));
+    assert!(rt; refused_for(rt.alloc(), 1, 2, 4160) == Some("length"));
+    assert!(rt; all_between_are_refused(rt.alloc(), 0));
+    for k in 1..65 {
+        assert!(rt; refused_for(rt.alloc(), 1, 2, 64 * k).is_none(), "{k}");
+        assert!(rt; all_between_are_refused(rt.alloc(), 64 * k), "{k}");
     }
 }

@@ -69,7 +69,7 @@ Both z queue driver device words =
     × (all_written (start_image z queue) (writes_of_device z device ++ writes_of_driver z driver) ≡ word_image z words)
 
 pub both_sides : BothSidesMakeTheImage
-both_sides ring driver device closed finished =
+both_sides ring driver device closed finished full =
     subst (λ queue. Both closed.size queue driver device closed.words) (sym finished.queue)
     (subst (λ z. Both z ring.queue driver device closed.words) (sym finished.size) at_size)
   where
@@ -84,6 +84,6 @@ both_sides ring driver device closed finished =
 
     at_size : Both key.size ring.queue driver device closed.words
     at_size = (
-      driver_first key driver.written device.written closed.words finished.longest finished.all_words below some,
-      device_first key driver.written device.written closed.words finished.longest finished.all_words below some,
+      driver_first key driver.written device.written closed.words (sym finished.width ∙ full) finished.all_words below some,
+      device_first key driver.written device.written closed.words (sym finished.width ∙ full) finished.all_words below some,
     )

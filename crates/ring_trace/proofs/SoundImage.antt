@@ -1,11 +1,13 @@
 -- No fault in the image of a finished ring.
-use Rattle.std.proofs.Common.{◌≡◌, ◌∙◌, ◌<◌, ◌≤◌, ◌+◌, ◌*◌, ◌-◌, ◌%◌, ◌^◌, ℕ, zero, suc, Bool, true, false, cond, List, [], ◌∷◌, ◌++◌, find, None, Some, Ok, option_map, length, refl, sym, ap, subst, length-append, le-ltb, arith}
+use Rattle.std.proofs.Common.{◌≡◌, ⊎_elim, ◌∙◌, ◌<◌, ◌≤◌, ◌+◌, ◌*◌, ◌-◌, ◌%◌, ◌^◌, ℕ, zero, suc, Bool, true, false, cond, List, [], ◌∷◌, ◌++◌, find, None, Some, Ok, option_map, length, refl, sym, ap, subst, length-append, le-ltb, arith}
 use Rattle.std.specs.Prelude.{◌==◌}
 use Rattle.std.specs.List.{All, flat_map, range_with_len}
 use Rattle.std.specs.Option.{option_or}
+use Rattle.std.proofs.Math.Pow.{pow_mono}
+use Rattle.std.proofs.lemmas.Bool.{cases_lt}
 use Rattle.std.proofs.lemmas.List.Folds.{find-append}
 use Rattle.std.proofs.lemmas.List.Concat.{flat_map_single}
-use Rattle.mc_base.specs.Limits.{buffer_size}
+use Rattle.mc_base.specs.Limits.{buffer_size, link_limit}
 use Rattle.mc_base.specs.Bytes.{number_at}
 use Rattle.shared_words.specs.Entry.{Entry, number_of}
 use Rattle.shared_words.specs.Shape.{IsShape}
@@ -16,12 +18,12 @@ use Rattle.shared_words.specs.declared.rule.Shape.{Shape}
 use Rattle.shared_words.specs.declared.field.Field.TheVariants.{DescAddr, DescLen, DescFlags, DescNext, AvailFlags, AvailIdx, AvailRing, UsedFlags, UsedIdx, UsedId, UsedLen}
 use Rattle.shared_words.proofs.WayLemmas.{ahead_is}
 use Rattle.shared_words.proofs.WordLemmas.{size_facts}
-use Rattle.split_ring.specs.Finished.{Fits}
+use Rattle.shared_words.specs.Constants.{IsLawful}
 use Rattle.board_model.specs.RingImage.{Values, image_length, buffer_address, buffer_flags, desc_addr_at, desc_len_at, desc_flags_at, desc_next_at, avail_ring_at, used_id_at, used_len_at}
 use Rattle.ring_trace.specs.declared.checking.ImageFault.TheVariants.{Constant, IdxAhead, IdRange, LenRange}
 use Rattle.ring_trace.specs.ImageFaults.{Rule, is_broken, exactly, at_most, first_broken, descriptor_constants, ring_constants, constants, rules_of_column, offered_ids, used_ids, ids, desc_lens, used_lens, lens, avail_idx, used_idx, ahead, idx_place, with_fault, first_of, faults, size_of_length, queue_of_flags, info, unless_fault, checked_queue, checked_size, checked}
 use Rattle.ring_trace.specs.WordImage.{values_in, word_image}
-use Rattle.ring_trace.specs.SoundImages.{ReturnsAreEmpty, FinishedImagesAreSound, FinishedImagesAreShort}
+use Rattle.ring_trace.specs.SoundImages.{IsOfLink, ReturnsAreEmpty, FinishedImagesAreSound, FinishedImagesAreShort}
 use Rattle.ring_trace.proofs.Tables.{image_has_length}
 use Rattle.ring_trace.proofs.FieldReads as reads
 
@@ -79,6 +81,10 @@ size-found (suc (suc (suc (suc (suc (suc (suc zero))))))) a b = refl
 size-found (suc (suc (suc (suc (suc (suc (suc (suc zero)))))))) a b = refl
 size-found (suc (suc (suc (suc (suc (suc (suc (suc (suc k))))))))) a b = absurd (omega arith)
 
+-- a size of at most 256 is an early power of two
+low-power : (z k : ℕ) → z ≡ 2 ^ k → z ≤ 256 → k ≤ 8
+low-power z k is few = ⊎_elim (λ (low : k < 9). omega (arith, low)) (λ (high : 9 ≤ k). let more : 512 ≤ z = subst (λ (y : ℕ). 512 ≤ y) (sym is) (pow_mono high) in absurd (omega (arith, few, more))) (cases_lt k 9)
+
 queue-found : (queue : ℕ) → queue ≤ 1 → queue_of_flags (buffer_flags queue) ≡ Some queue
 queue-found zero h = refl
 queue-found (suc zero) h = refl
@@ -94,14 +100,21 @@ address-small zero size i h few low = omega (arith, few, low)
 address-small (suc zero) size i h few low = omega (arith, few, low)
 address-small (suc (suc q)) size i h few low = absurd (omega (arith, h))
 
+-- each length of an entry fits a buffer of 512 bytes
+abbrev Fits : Entry → Type 0
+Fits e = e.1 ≤ buffer_size
+
+all-fit : (key : Shape) (es : List Entry) → key.length ≡ buffer_size → All (IsLawful key) es → All Fits es
+all-fit key es full lawful k d h = let fits = (lawful k d h).1 in omega (arith, fits, full)
+
 -- the most that a length in the used ring may be
 abbrev most_used : ℕ → ℕ
 most_used queue = cond (queue == 0) buffer_size 0
 
-used-small : (queue : ℕ) (size : ℕ) (returned : List Entry) → queue ≤ 1 → All (Fits size) returned → ReturnsAreEmpty queue returned → All (λ (e : Entry). e.1 ≤ most_used queue) returned
-used-small zero size returned h fit empty = λ k d within. (fit k d within).1
-used-small (suc zero) size returned h fit empty = λ k d within. let none = empty refl k d within in omega (arith, none)
-used-small (suc (suc q)) size returned h fit empty = absurd (omega (arith, h))
+used-small : (queue : ℕ) (returned : List Entry) → queue ≤ 1 → All Fits returned → ReturnsAreEmpty queue returned → All (λ (e : Entry). e.1 ≤ most_used queue) returned
+used-small zero returned h fit empty = fit
+used-small (suc zero) returned h fit empty = λ k d within. let none = empty refl k d within in omega (arith, none)
+used-small (suc (suc q)) returned h fit empty = absurd (omega (arith, h))
 
 most-used-small : (queue : ℕ) → most_used queue ≤ 512
 most-used-small queue = choose (queue == 0) buffer_size 0 512 (omega arith) (omega arith)
@@ -109,7 +122,7 @@ most-used-small queue = choose (queue == 0) buffer_size 0 512 (omega arith) (ome
 -- The image
 
 module _ (key : Shape) (offered returned : List Entry) (words : List ℕ) (shape : IsShape key) (full : key.length ≡ buffer_size) (final : AreFinal key offered returned words)
-    (offered_fit : All (Fits key.size) offered) (returned_fit : All (Fits key.size) returned) (empty : ReturnsAreEmpty key.queue returned)
+    (small : key.size ≤ link_limit) (offered_fit : All (IsLawful key) offered) (returned_fit : All (IsLawful key) returned) (empty : ReturnsAreEmpty key.queue returned)
     (back : length returned ≤ length offered) (near : length offered ≤ key.size + length returned) where
   abbrev z : ℕ
   z = key.size
@@ -121,7 +134,7 @@ module _ (key : Shape) (offered returned : List Entry) (words : List ℕ) (shape
   bytes = word_image z words
 
   few : (2 ≤ z) × (z ≤ 256)
-  few = let s = size_facts z shape.size in (s.0, s.1)
+  few = let s = size_facts z shape.size in (s.0, small)
 
   addr : (i : ℕ) → i < z → number_at (desc_addr_at i) 8 bytes ≡ buffer_address key.queue z i
   addr i low =
@@ -162,13 +175,13 @@ module _ (key : Shape) (offered returned : List Entry) (words : List ℕ) (shape
 
   offered_length : (i : ℕ) → i < z → number_at (desc_len_at i) 4 bytes ≤ buffer_size
   offered_length i low =
-      let small : v.len i ≤ buffer_size = subst (λ k. k ≤ buffer_size) (sym (final.each (DescLen i) low)) (last-small (λ n e. number_of e == i) (λ e. e.1) buffer_size 0 0 offered (omega arith) (λ k d h. (offered_fit k d h).1)) in
+      let small : v.len i ≤ buffer_size = subst (λ k. k ≤ buffer_size) (sym (final.each (DescLen i) low)) (last-small (λ n e. number_of e == i) (λ e. e.1) buffer_size 0 0 offered (omega arith) (all-fit key offered full offered_fit)) in
       let read = reads.len-read z v i low (omega (arith, small)) in omega (arith, read, small)
 
   used_length : (p : ℕ) → p < z → number_at (used_len_at z p) 4 bytes ≤ most_used key.queue
   used_length p low =
       let small : v.used_len p ≤ most_used key.queue = subst (λ k. k ≤ most_used key.queue) (sym (final.each (UsedLen p) low))
-      (last-small (λ n e. (n % z) == p) (λ e. e.1) (most_used key.queue) 0 0 returned (omega arith) (used-small key.queue z returned shape.queue returned_fit empty)) in
+      (last-small (λ n e. (n % z) == p) (λ e. e.1) (most_used key.queue) 0 0 returned (omega arith) (used-small key.queue returned shape.queue (all-fit key returned full returned_fit) empty)) in
       let most = most-used-small key.queue in let read = reads.used-len-read z v p low (omega (arith, small, most)) in omega (arith, read, small)
 
   both : (r : Rule) (rs : List Rule) → find (is_broken bytes) (r ∷ []) ≡ None → find (is_broken bytes) rs ≡ None → find (is_broken bytes) (r ∷ rs) ≡ None
@@ -225,7 +238,7 @@ module _ (key : Shape) (offered returned : List Entry) (words : List ℕ) (shape
   no_fault = λ i. first_of (with_fault Constant (no_constant i) ∷ with_fault IdxAhead (not_ahead i) ∷ with_fault IdRange (no_id i) ∷ with_fault LenRange (no_length i) ∷ [])
 
   the_size : size_of_length (length bytes) ≡ Some z
-  the_size = ap size_of_length (image_has_length z v) ∙ (λ i. size_of_length (image_length (shape.size.3 i))) ∙ size-found shape.size.0 shape.size.1 shape.size.2 ∙ (λ i. Some (sym shape.size.3 i))
+  the_size = ap size_of_length (image_has_length z v) ∙ (λ i. size_of_length (image_length (shape.size.3 i))) ∙ size-found shape.size.0 shape.size.1 (low-power z shape.size.0 shape.size.3 small) ∙ (λ i. Some (sym shape.size.3 i))
 
   the_queue : queue_of_flags (number_at (desc_flags_at 0) 2 bytes) ≡ Some key.queue
   the_queue = ap queue_of_flags (flags 0 (let f = few in omega (arith, f))) ∙ queue-found key.queue shape.queue
@@ -238,9 +251,9 @@ module _ (key : Shape) (offered returned : List Entry) (words : List ℕ) (shape
       ∙ (λ i. Ok (record { size = z; queue = key.queue; avail = avail i; used = used i }))))
 
 pub finished_images : FinishedImagesAreSound
-finished_images ring driver device closed finished empty =
+finished_images ring driver device closed finished link empty =
     subst (λ (x : ℕ × ℕ). checked (word_image x.0 closed.words) ≡ Ok (record { size = x.0; queue = x.1; avail = length driver.written % 65536; used = length device.written % 65536 })) (λ i. (sym finished.size i, sym finished.queue i))
-    (is_sound (shape_of ring) driver.written device.written closed.words finished.shape finished.longest finished.all_words finished.offered_fit finished.returned_fit
+    (is_sound (shape_of ring) driver.written device.written closed.words finished.shape (sym finished.width ∙ link.1) finished.all_words (subst (λ z. z ≤ link_limit) finished.size link.0) finished.offered_fit finished.returned_fit
     (subst (λ q. ReturnsAreEmpty q device.written) finished.queue empty) back near)
   where
     back : length device.written ≤ length driver.written
@@ -250,5 +263,5 @@ finished_images ring driver device closed finished empty =
     near = let count = finished.driver_count in let all = ap (length {A = Entry}) finished.returned ∙ length-append driver.taken finished.returned_rest in omega (arith, count, all)
 
 pub short_images : FinishedImagesAreShort
-short_images ring driver device closed finished =
-    let long = image_has_length closed.size (values_in closed.size closed.words) in let few = size_facts ring.ring.table.slots finished.shape.size in let size = finished.size in omega (arith, long, few, size)
+short_images ring driver device closed finished link =
+    let long = image_has_length closed.size (values_in closed.size closed.words) in let few = link.0 in omega (arith, long, few)

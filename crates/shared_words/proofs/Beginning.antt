@@ -154,7 +154,7 @@ new_way role key words homes idx out lasts range = record {
   out = out;
   in_range = range;
   last_entries = lasts;
-  longest = refl;
+  width = refl;
 }
 
 begins_with : (key : Shape) (s : RingState) (f : NotBegun key s) → Running key record { words = s.words; homes = homes_after s.homes [] (takes_from 0 key.size); views = Whole (new_view key.length) (new_view key.length) ∷ [] }
@@ -186,7 +186,7 @@ allows_begin key slots id me is bare sized s (inl f) deep at _ = let v : HalfVie
   all_valid 0 z s.homes me.1 (λ k a b. subst (λ (hs : Homes). get_elem? hs k ≡ some (some None)) (sym f.homes) (vacant_at z k (omega arith))),
   subst (λ (ws : List ℕ). RingRule key record { words = ws; homes = homes_after s.homes me.1 (takes_from 0 z); views = set s.views id (Whole v v) }) (sym (set-get_or s.words 0 0))
       (subst (λ (y : List Slot × List View). RingRule key record { words = s.words; homes = homes_after s.homes y.0 (takes_from 0 z); views = y.1 }) (λ i. (sym bare i, sym (ap (λ (q : List View × ℕ). set q.0 q.1 (Whole v v)) (λ k. (f.views k, o.0 k))) i)) (inr (begins_with key s f))),
-  (λ longest q. let same : key.length ≡ longest = (let e : Opening key.length ≡ Opening longest = sym is ∙ q in cc) in (
+  (λ width q. let same : key.length ≡ width = (let e : Opening key.length ≡ Opening width = sym is ∙ q in cc) in (
     ap (λ (n : ℕ). Whole (new_view n) (new_view n)) same,
     carried_is 0 z me.1 ∙ (ap (λ (c : List Slot). map vacant (numbers_from 0 z) ++ c) bare ∙ (append-nil (map vacant (numbers_from 0 z)) ∙ ap (λ (n : ℕ). map vacant (numbers_from 0 n)) (sym sized))),
   )),
@@ -213,8 +213,8 @@ splits_part key id d e s (inr r) at = inr record {
 all_carried : (x z : ℕ) → carried_times x (map vacant (numbers_from 0 z)) ≡ inside z x
 all_carried x z = by-map (λ (s : Slot). s.0) vacant x (numbers_from 0 z) ∙ all_numbers x z
 
-pub first_driver : (z longest : ℕ) (slots : List Slot) → slots ≡ map vacant (numbers_from 0 z) → HalfHolds z Driver (new_view longest) slots 0 0 0
-first_driver z longest slots is = record {
+pub first_driver : (z width : ℕ) (slots : List Slot) → slots ≡ map vacant (numbers_from 0 z) → HalfHolds z Driver (new_view width) slots 0 0 0
+first_driver z width slots is = record {
   written_count = refl;
   taken_count = refl;
   number_read = λ id e. absurd (cc);
@@ -235,5 +235,5 @@ numbers-more k = ap (numbers_from 0) (add-one k) ∙ (numbers-suc 0 k ∙ ap (λ
 -- The first buffers
 
 -- each number below the size is that of one of them
-pub all_buffers : (x z : ℕ) → times_by (λ (b : Stored). b.number) x (map new_buffer (numbers_from 0 z)) ≡ inside z x
-all_buffers x z = by-map (λ (b : Stored). b.number) new_buffer x (numbers_from 0 z) ∙ all_numbers x z
+pub all_buffers : (width x z : ℕ) → times_by (λ (b : Stored). b.number) x (map (new_buffer width) (numbers_from 0 z)) ≡ inside z x
+all_buffers width x z = by-map (λ (b : Stored). b.number) (new_buffer width) x (numbers_from 0 z) ∙ all_numbers x z

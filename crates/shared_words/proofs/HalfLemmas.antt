@@ -1,5 +1,5 @@
 -- What a half keeps at each kind of step. It serves both halves.
-use Rattle.std.proofs.Common.{◌≡◌, ◌≢◌, ℕ, ◌+◌, ◌-◌, ◌%◌, ◌<◌, ◌≤◌, List, [], ◌∷◌, ◌++◌, sym, refl, ap, ◌∙◌, subst, arith, Option, Some, None, length-append, bit_and}
+use Rattle.std.proofs.Common.{◌≡◌, ◌≢◌, ℕ, ◌+◌, ◌-◌, ◌%◌, ◌<◌, ◌≤◌, List, [], ◌∷◌, ◌++◌, sym, refl, ap, ◌∙◌, subst, arith, Option, Some, None, length, length-append, bit_and}
 use mathlib.Core.Logic.{dite}
 use native.Mathlib.Decide.{ℕ_discrete}
 use Rattle.std.proofs.Math.Nat.{mod-mod_of_dvd}
@@ -51,13 +51,13 @@ pub record Met (role : Role) (view : HalfView) (t : table.Inside) (h : half.Insi
   pub shape : IsShape t.board.shared.key
   pub size : t.board.shared.key.size ≡ t.size
   pub holds : HalfHolds t.board.shared.key.size role view h.seat.me.1 h.written h.taken h.read
-  pub longest : view.longest ≡ t.board.shared.key.length
+  pub width : view.width ≡ t.board.shared.key.length
 
 abbrev pub shown_half : TableId → Seated → HalfShown
-shown_half id me = record { ring = record { table = id; longest = (half_in me.0).longest }; role = role_in me.0; view = half_in me.0 }
+shown_half id me = record { ring = record { table = id; width = (half_in me.0).width }; role = role_in me.0; view = half_in me.0 }
 
 abbrev pub shown_table : table.Inside → TableShown
-shown_table t = record { ring = record { table = t.board.shared.table_id; longest = t.board.shared.key.length }; queue = t.queue }
+shown_table t = record { ring = record { table = t.board.shared.table_id; width = t.board.shared.key.length }; queue = t.queue }
 
 pub meets : (role : Role) (t : table.Inside) (h : half.Inside) (on : TableShown) (me : HalfShown) → TableHolds t.board.shared.table_id t.board.shared.key t.queue t.size → shown_table t ≡ on
     → SeatHolds h.seat.table_id.slots h.seat.me h.written h.taken h.read → shown_half h.seat.table_id h.seat.me ≡ me → IsHalfOf on role me → Met role me.view t h
@@ -74,7 +74,7 @@ meets role t h on me tab t_is seat h_is fit =
       shape = tab.shape;
       size = tab.size_is;
       holds = subst (λ (x : ℕ × Role × HalfView). HalfHolds x.0 x.1 x.2 h.seat.me.1 h.written h.taken h.read) (λ i. (size_is i, is i, view i)) seat.holds;
-      longest = ap (λ (x : HalfView). x.longest) (sym view) ∙ ap (λ (x : RingId). x.longest) ring;
+      width = ap (λ (x : HalfView). x.width) (sym view) ∙ ap (λ (x : RingId). x.width) ring;
     }
 
 module _ (role : Role) (t : table.Inside) (h : half.Inside) (me : HalfShown) (m : Met role me.view t h) where
@@ -87,10 +87,10 @@ module _ (role : Role) (t : table.Inside) (h : half.Inside) (me : HalfShown) (m 
         holds = subst (λ (x : ℕ × Role × HalfView). HalfHolds x.0 x.1 x.2 me'.1 a b c) (λ i. (size_is i, is i, v i)) holds;
       }
 
-  pub shown_after : (view' : HalfView) (id' : TableId) (me' : Seated) → shown_half h.seat.table_id h.seat.me ≡ me → me.role ≡ role → id' ≡ h.seat.table_id → me'.0 ≡ Live role view' → view'.longest ≡ me.view.longest → shown_half id' me' ≡ with_view view' me
-  shown_after view' id' me' is r same live longest =
-      let long : (half_in me'.0).longest ≡ (half_in h.seat.me.0).longest = ap (λ (x : View). (half_in x).longest) live ∙ (longest ∙ sym (ap (λ (x : HalfShown). x.view.longest) is)) in
-      let ring : (shown_half id' me').ring ≡ me.ring = (λ i. record { table = same i; longest = long i }) ∙ ap (λ (x : HalfShown). x.ring) is in
+  pub shown_after : (view' : HalfView) (id' : TableId) (me' : Seated) → shown_half h.seat.table_id h.seat.me ≡ me → me.role ≡ role → id' ≡ h.seat.table_id → me'.0 ≡ Live role view' → view'.width ≡ me.view.width → shown_half id' me' ≡ with_view view' me
+  shown_after view' id' me' is r same live width =
+      let long : (half_in me'.0).width ≡ (half_in h.seat.me.0).width = ap (λ (x : View). (half_in x).width) live ∙ (width ∙ sym (ap (λ (x : HalfShown). x.view.width) is)) in
+      let ring : (shown_half id' me').ring ≡ me.ring = (λ i. record { table = same i; width = long i }) ∙ ap (λ (x : HalfShown). x.ring) is in
       λ i. record { ring = ring i; role = (ap role_in live ∙ sym r) i; view = half_in (live i) }
 
   -- a number that the caller says is held
@@ -200,6 +200,7 @@ pub record Got (role : Role) (view : HalfView) (t : table.Inside) (h : half.Insi
   pub live : me'.0 ≡ Live role (taking (buffer, r) view)
   pub carried : me'.1 ≡ (h.read, Some buffer) ∷ h.seat.me.1
   pub fits : r ≤ t.board.shared.key.length
+  pub bytes : length buffer.bytes ≡ t.board.shared.key.length
   pub low : h.read < t.board.shared.key.size
   pub fresh : times h.read view.written ≡ begins role t.board.shared.key.size h.read + times h.read view.taken
 
@@ -211,9 +212,10 @@ gets role t h me me' i r m is told = let n = m.holds.number_read (number_in me.v
       is_read = n.0;
       live = g.2;
       carried = g.3;
-      fits = let a = g.4 in let b = m.longest in omega (arith, a, b);
+      fits = let a = g.4 in let b = m.width in omega (arith, a, b);
+      bytes = g.5 ∙ m.width;
       low = omega (arith, n);
-      fresh = subst (λ (z : ℕ). times h.read me.view.written ≡ begins role z h.read + times h.read me.view.taken) m.slots g.5;
+      fresh = subst (λ (z : ℕ). times h.read me.view.written ≡ begins role z h.read + times h.read me.view.taken) m.slots g.6;
     }
 
 -- what was in the slot is the buffer

@@ -113,7 +113,7 @@ far_keeps role key words homes w t t' i x homes' pos o far small out entries = l
   out = out;
   in_range = range_far role key words w.written o.in_range i x far;
   last_entries = last_far role z words w.written w.staged o.last_entries i x far;
-  longest = o.longest;
+  width = o.width;
 }
 
 module _ (role : Role) (key : Shape) (words : List ℕ) (homes : Homes) (m y : HalfView) (s : Sides role key words homes m y) where
@@ -126,7 +126,7 @@ module _ (role : Role) (key : Shape) (words : List ℕ) (homes : Homes) (m y : H
   pub some_size : 0 < key.size
   some_size = let f = size_facts key.size s.shape.size in omega (arith, f)
 
-  pub small_size : key.size ≤ 256
+  pub small_size : key.size ≤ 32768
   small_size = let f = size_facts key.size s.shape.size in omega (arith, f)
 
   pub mine_is : (x : ℕ) → times x m.written ≡ times x y.taken + times x s.my_way.entries.left
@@ -223,7 +223,7 @@ module _ (role : Role) (key : Shape) (words : List ℕ) (homes : Homes) (m y : H
         shape = s.shape;
         word_count = length-set words i x ∙ s.word_count;
         slot_count = s.slot_count;
-        my_way = record { entries = my_entries_stay i x id held at; staged = now; staged_in_order = order; out = s.my_way.out; in_range = range; last_entries = last; longest = s.my_way.longest };
+        my_way = record { entries = my_entries_stay i x id held at; staged = now; staged_in_order = order; out = s.my_way.out; in_range = range; last_entries = last; width = s.my_way.width };
         your_way = far_keeps (other role) key words homes y m (staging st) i x homes some_size s.your_way far (λ k h. (you_hold k h).0) s.your_way.out
             (your_entries_stay i x homes m.shown st far s.your_way.entries.shown_first s.your_way.entries.written_first none_read (λ e _. refl));
         i_own = s.i_own;
@@ -238,9 +238,9 @@ module _ (role : Role) (key : Shape) (words : List ℕ) (homes : Homes) (m y : H
   idle_not_read k e = cc
 
   -- idx is stored, and the buffer goes to its slot
-  pub publish_keeps : (new len : ℕ) (b : Stored) → m.staged ≡ BothStored b.number len → new ≡ (length m.written + 1) % 65536
+  pub publish_keeps : (new len : ℕ) (b : Stored) → m.staged ≡ BothStored b.number len → length b.bytes ≡ key.length → new ≡ (length m.written + 1) % 65536
       → Sides role key (set words (way_of role key.size).idx new) (set homes b.number (some (Some b))) record m { written = m.written ++ (b, len) ∷ []; staged = Idle } y
-  publish_keeps new len b is next = let n : ℕ = b.number in let e : Entry = (b, len) in let i : ℕ = way.idx in let homes' : Homes = set homes n (some (Some b)) in
+  publish_keeps new len b is wide_enough next = let n : ℕ = b.number in let e : Entry = (b, len) in let i : ℕ = way.idx in let homes' : Homes = set homes n (some (Some b)) in
       let k = subst (StagedHolds way z key.length words (Holds role z m) (length m.written)) is s.my_way.staged in
       let has = i_hold n k.0 in let low : n < z = has.0 in let wide = s.word_count in let deep = s.slot_count in
       let more : (x : ℕ) → times x (m.written ++ e ∷ []) ≡ times x m.written + times x (e ∷ []) = λ x. times-append x m.written (e ∷ []) in
@@ -255,9 +255,9 @@ module _ (role : Role) (key : Shape) (words : List ℕ) (homes : Homes) (m y : H
           staged = tt;
           staged_in_order = idle_in_order role;
           out = λ x h. set_else homes n x (some (Some b)) (not_held x h) ∙ s.my_way.out x (let a = more x in omega (arith, a, h));
-          in_range = range_published role key (set words i new) m.written (range_stored role key words m.written s.my_way.in_range i new here (λ p _ q. absurd (idx_not_number role z p q)) (λ j l q. absurd (idx_not_len role z j l q))) e low k.3;
+          in_range = range_published role key (set words i new) m.written (range_stored role key words m.written s.my_way.in_range i new here (λ p _ q. absurd (idx_not_number role z p q)) (λ j l q. absurd (idx_not_len role z j l q))) e (low, k.3, wide_enough);
           last_entries = last_published role z words m.written m.staged s.my_way.last_entries new e some_size low is k.1 k.2;
-          longest = s.my_way.longest;
+          width = s.my_way.width;
         };
         your_way = far_keeps (other role) key words homes y m (writing e) i new homes' some_size s.your_way (far_idx role z) (λ x h. (you_hold x h).0)
             (λ x h. set_else homes n x (some (Some b)) (λ q. let h' = subst (Holds (other role) z y) q h in omega (arith, h', has.3)) ∙ s.your_way.out x h)
@@ -279,7 +279,7 @@ module _ (role : Role) (key : Shape) (words : List ℕ) (homes : Homes) (m y : H
     shape = s.shape;
     word_count = s.word_count;
     slot_count = s.slot_count;
-    my_way = record { entries = s.my_way.entries; staged = s.my_way.staged; staged_in_order = s.my_way.staged_in_order; out = s.my_way.out; in_range = s.my_way.in_range; last_entries = s.my_way.last_entries; longest = s.my_way.longest };
+    my_way = record { entries = s.my_way.entries; staged = s.my_way.staged; staged_in_order = s.my_way.staged_in_order; out = s.my_way.out; in_range = s.my_way.in_range; last_entries = s.my_way.last_entries; width = s.my_way.width };
     your_way = record {
       entries = way_shows (other role) z words homes y.written m.taken m.shown m.staged s.your_way.entries shown' m.staged (let low = s.your_way.entries.shown_first in omega (arith, low, more)) high (λ k e. (e, more));
       staged = s.your_way.staged;
@@ -287,7 +287,7 @@ module _ (role : Role) (key : Shape) (words : List ℕ) (homes : Homes) (m y : H
       out = s.your_way.out;
       in_range = s.your_way.in_range;
       last_entries = s.your_way.last_entries;
-      longest = s.your_way.longest;
+      width = s.your_way.width;
     };
     i_own = s.i_own;
     you_own = s.you_own;
@@ -307,7 +307,7 @@ module _ (role : Role) (key : Shape) (words : List ℕ) (homes : Homes) (m y : H
       out = s.my_way.out;
       in_range = s.my_way.in_range;
       last_entries = s.my_way.last_entries;
-      longest = s.my_way.longest;
+      width = s.my_way.width;
     };
     your_way = record {
       entries = s.your_way.entries;
@@ -316,7 +316,7 @@ module _ (role : Role) (key : Shape) (words : List ℕ) (homes : Homes) (m y : H
       out = s.your_way.out;
       in_range = s.your_way.in_range;
       last_entries = s.your_way.last_entries;
-      longest = s.your_way.longest;
+      width = s.your_way.width;
     };
     i_own = s.i_own;
     you_own = s.you_own;
@@ -342,7 +342,7 @@ module _ (role : Role) (key : Shape) (words : List ℕ) (homes : Homes) (m y : H
       out = s.my_way.out;
       in_range = s.my_way.in_range;
       last_entries = last_quiet role z words m.written m.staged s.my_way.last_entries (NumberRead r) (no_number Idle idle (λ h. h)) (no_length Idle idle (λ id h. h));
-      longest = s.my_way.longest;
+      width = s.my_way.width;
     };
     your_way = record {
       entries = way_reads (other role) z words homes y.written m.taken m.shown m.staged s.your_way.entries r l is;
@@ -351,7 +351,7 @@ module _ (role : Role) (key : Shape) (words : List ℕ) (homes : Homes) (m y : H
       out = s.your_way.out;
       in_range = s.your_way.in_range;
       last_entries = s.your_way.last_entries;
-      longest = s.your_way.longest;
+      width = s.your_way.width;
     };
     i_own = s.i_own;
     you_own = s.you_own;
@@ -395,7 +395,7 @@ module _ (role : Role) (key : Shape) (words : List ℕ) (homes : Homes) (m y : H
               (λ ne. set_else homes n x none (λ q. ne (sym q)) ∙ s.my_way.out x (let a = more x in let t = times-other x e ne in omega (arith, a, t, h)));
           in_range = s.my_way.in_range;
           last_entries = last_quiet role z words m.written m.staged s.my_way.last_entries Idle (no_number (NumberRead id) reads (λ h. h)) (no_length (NumberRead id) reads (λ k h. h));
-          longest = s.my_way.longest;
+          width = s.my_way.width;
         };
         your_way = record {
           entries = way_takes (other role) z words homes y.written m.taken m.shown m.staged s.your_way.entries e rest l is (omega (arith, one));
@@ -404,7 +404,7 @@ module _ (role : Role) (key : Shape) (words : List ℕ) (homes : Homes) (m y : H
           out = λ x h. set_else homes n x none (λ q. let has = you_hold x h in let t = subst (λ (k : ℕ). 0 < times k s.your_way.entries.left) (sym q) there in omega (arith, t, has)) ∙ s.your_way.out x h;
           in_range = s.your_way.in_range;
           last_entries = s.your_way.last_entries;
-          longest = s.your_way.longest;
+          width = s.your_way.width;
         };
         i_own = λ x. let a = more x in let h = s.i_own x in omega (arith, a, h);
         you_own = s.you_own;

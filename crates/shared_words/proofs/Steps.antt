@@ -179,12 +179,12 @@ allows_used_len key slots id i n len me v is staged_is brief word s holds deep a
           ((λ j. Live Device (staging (BothStored (num j) len) (same j))), refl),
     )
 
-pub allows_publish : (role : Role) (key : Shape) (slots id i new len : ℕ) (me : Seated) (v : HalfView) (b : Stored) (below : List Slot) → me.0 ≡ Live role v → v.staged ≡ BothStored b.number len → new ≡ (length v.written + 1) % 65536
+pub allows_publish : (role : Role) (key : Shape) (slots id i new len : ℕ) (me : Seated) (v : HalfView) (b : Stored) (below : List Slot) → me.0 ≡ Live role v → v.staged ≡ BothStored b.number len → length b.bytes ≡ v.width → new ≡ (length v.written + 1) % 65536
     → me.1 ≡ (b.number, Some b) ∷ below → i ≡ (way_of role key.size).idx
     → Allows (RingRule key) slots id me i (λ _. new) (λ _. by_either index_published (step slots i new 0 none) me new)
-allows_publish role key slots id i new len me v b below is staged_is next carried word s holds deep at _ =
+allows_publish role key slots id i new len me v b below is staged_is bytes next carried word s holds deep at _ =
     let f = found role key s id v me.0 holds at is in let w : HalfView = writing (b, len) v in
-    let kept = publish_keeps role key s.words s.homes v f.yours f.sides new len b staged_is next in (
+    let kept = publish_keeps role key s.words s.homes v f.yours f.sides new len b staged_is (bytes ∙ f.sides.my_way.width) next in (
       Live role w,
       gives,
       tt,
@@ -241,7 +241,7 @@ allows_take role key slots id i n me v is staged_is sized word s holds deep at _
     let slot : get_elem? s.homes n ≡ some (some (Some x.0)) = subst (λ (j : ℕ). get_elem? s.homes j ≡ some (some (Some x.0))) num stand.slot in
     let there : 0 < times n f.sides.your_way.entries.left = subst (λ (k : ℕ). 0 < times k f.sides.your_way.entries.left) num
     (Rattle.shared_words.proofs.WayLemmas.left_there (other role) key.size s.words s.homes f.yours.written v.taken v.shown v.staged f.sides.your_way.entries (length v.taken) x (le_refl (length v.taken)) e.3) in
-    let free = left_not_mine role key s.words s.homes v f.yours f.sides n there in let longest = f.sides.my_way.longest in
+    let free = left_not_mine role key s.words s.homes v f.yours f.sides n there in let width = f.sides.my_way.width in
     let w : HalfView = taking (x.0, r) v in
     let kept = take_keeps role key s.words s.homes v f.yours f.sides n x e.1 staged_is e.5 e.2 in (
       Live role w,
@@ -256,7 +256,8 @@ allows_take role key slots id i n me v is staged_is sized word s holds deep at _
             num ∙ same_n,
             ap (λ (y : Role × HalfView). Live y.0 (taking (x.0, r) y.1)) same,
             ap (λ (k : ℕ). (k, Some x.0) ∷ me.1) same_n,
-            subst (λ (y : Role × HalfView). r ≤ y.1.longest) same (omega (arith, len, range, longest)),
+            subst (λ (y : Role × HalfView). r ≤ y.1.width) same (omega (arith, len, range, width)),
+            range.2 ∙ (sym width ∙ ap (λ (y : Role × HalfView). y.1.width) same),
             subst (λ (t : (Role × HalfView) × ℕ × ℕ). times t.1 t.0.1.written ≡ begins t.0.0 t.2 t.1 + times t.1 t.0.1.taken) (λ j. (same j, same_n j, sym sized j)) free.0,
           ),
     )

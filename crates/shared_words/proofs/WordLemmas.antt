@@ -1,5 +1,8 @@
 -- What a store keeps of the words of a way: what is staged, the last entries and the ranges.
-use Rattle.std.proofs.Common.{◌≡◌, ◌≢◌, ℕ, zero, suc, ◌+◌, ◌*◌, ◌%◌, ◌<◌, ◌≤◌, ◌^◌, eqb, cond, Bool, List, [], ◌∷◌, ◌++◌, length, set, get_or, sym, refl, ap, ◌∙◌, subst, ⊎_elim, arith, get_or-set_same, eq-eqb, ne_eqb}
+use Rattle.std.proofs.Common.{◌≡◌, ◌≢◌, ℕ, suc, ◌+◌, ◌-◌, ◌*◌, ◌%◌, ◌<◌, ◌≤◌, ◌^◌, eqb, cond, Bool, List, [], ◌∷◌, ◌++◌, length, set, get_or, sym, refl, ap, ◌∙◌, subst, ⊎_elim, arith, get_or-set_same, eq-eqb, ne_eqb}
+use Rattle.std.proofs.Math.Pow.{pow_mono}
+use Rattle.std.proofs.Math.Nat.{mul-mod_left}
+use Rattle.std.proofs.lemmas.Nat.{pow-add}
 use mathlib.Core.Logic.{dite}
 use mathlib.Core.Option.{some}
 use native.Mathlib.Decide.{ℕ_discrete}
@@ -14,25 +17,18 @@ use Rattle.shared_words.specs.Shape.{IsRingSize}
 use Rattle.shared_words.specs.Way.{Way, way_of}
 use Rattle.shared_words.specs.Staging.{StagedHolds, InOrder}
 use Rattle.shared_words.specs.LastEntries.{last_from, last_value, HasNumber, HasLength, LastEntries}
-use Rattle.shared_words.specs.Constants.{Constants, InRange}
+use Rattle.shared_words.specs.Constants.{Constants, IsLawful, InRange}
 use Rattle.shared_words.proofs.WayLemmas.{get_apart, idx_not_number, idx_not_len, number_not_len, number_same, len_same, len_place_small, at_end, IsFarFrom, IsMoving}
 
 -- The sizes
 
-size_at : (z k : ℕ) → 1 ≤ k → k ≤ 8 → z ≡ 2 ^ k → (2 ≤ z) × (z ≤ 256) × (65536 % z ≡ 0)
-size_at z zero a b e = absurd (omega arith)
-size_at z (suc zero) a b e = subst (λ (y : ℕ). (2 ≤ y) × (y ≤ 256) × (65536 % y ≡ 0)) (sym e) (omega arith, omega arith, refl)
-size_at z (suc (suc zero)) a b e = subst (λ (y : ℕ). (2 ≤ y) × (y ≤ 256) × (65536 % y ≡ 0)) (sym e) (omega arith, omega arith, refl)
-size_at z (suc (suc (suc zero))) a b e = subst (λ (y : ℕ). (2 ≤ y) × (y ≤ 256) × (65536 % y ≡ 0)) (sym e) (omega arith, omega arith, refl)
-size_at z (suc (suc (suc (suc zero)))) a b e = subst (λ (y : ℕ). (2 ≤ y) × (y ≤ 256) × (65536 % y ≡ 0)) (sym e) (omega arith, omega arith, refl)
-size_at z (suc (suc (suc (suc (suc zero))))) a b e = subst (λ (y : ℕ). (2 ≤ y) × (y ≤ 256) × (65536 % y ≡ 0)) (sym e) (omega arith, omega arith, refl)
-size_at z (suc (suc (suc (suc (suc (suc zero)))))) a b e = subst (λ (y : ℕ). (2 ≤ y) × (y ≤ 256) × (65536 % y ≡ 0)) (sym e) (omega arith, omega arith, refl)
-size_at z (suc (suc (suc (suc (suc (suc (suc zero))))))) a b e = subst (λ (y : ℕ). (2 ≤ y) × (y ≤ 256) × (65536 % y ≡ 0)) (sym e) (omega arith, omega arith, refl)
-size_at z (suc (suc (suc (suc (suc (suc (suc (suc zero)))))))) a b e = subst (λ (y : ℕ). (2 ≤ y) × (y ≤ 256) × (65536 % y ≡ 0)) (sym e) (omega arith, omega arith, refl)
-size_at z (suc (suc (suc (suc (suc (suc (suc (suc (suc k))))))))) a b e = absurd (omega arith)
-
-pub size_facts : (z : ℕ) → IsRingSize z → (2 ≤ z) × (z ≤ 256) × (65536 % z ≡ 0)
-size_facts z s = size_at z s.0 s.1 s.2 s.3
+pub size_facts : (z : ℕ) → IsRingSize z → (2 ≤ z) × (z ≤ 32768) × (65536 % z ≡ 0)
+size_facts z (k, low, high, is) = (
+  subst (λ (y : ℕ). 2 ≤ y) (sym is) (pow_mono low),
+  subst (λ (y : ℕ). y ≤ 32768) (sym is) (pow_mono high),
+  subst (λ (y : ℕ). 65536 % y ≡ 0) (sym is)
+      (ap (λ (y : ℕ). y % 2 ^ k) (ap (λ (n : ℕ). 2 ^ n) (let n : 16 ≡ (16 - k) + k = omega (arith, high) in n) ∙ pow-add 2 (16 - k) k) ∙ mul-mod_left (2 ^ (16 - k)) (2 ^ k)),
+)
 
 -- What is staged
 
@@ -48,9 +44,9 @@ pub read_in_order : (role : Role) (id : ℕ) → InOrder role (NumberRead id)
 read_in_order Driver id = tt
 read_in_order Device id = tt
 
-module _ (role : Role) (z longest : ℕ) (words : List ℕ) (Held : ℕ → Type 0) (n i x : ℕ) where
-  pub staged_stays : (st : Staged) → i ≢ (way_of role z).number (n % z) → ((id : ℕ) → Held id → i ≢ (way_of role z).len ((way_of role z).len_place n id)) → StagedHolds (way_of role z) z longest words Held n st
-      → StagedHolds (way_of role z) z longest (set words i x) Held n st
+module _ (role : Role) (z width : ℕ) (words : List ℕ) (Held : ℕ → Type 0) (n i x : ℕ) where
+  pub staged_stays : (st : Staged) → i ≢ (way_of role z).number (n % z) → ((id : ℕ) → Held id → i ≢ (way_of role z).len ((way_of role z).len_place n id)) → StagedHolds (way_of role z) z width words Held n st
+      → StagedHolds (way_of role z) z width (set words i x) Held n st
   staged_stays Idle a b k = tt
   staged_stays (LengthStored id len) a b k = (k.0, get_apart words i ((way_of role z).len ((way_of role z).len_place n id)) x (b id k.0) ∙ k.1, k.2)
   staged_stays (NumberStored id) a b k = (k.0, get_apart words i ((way_of role z).number (n % z)) x a ∙ k.1)
@@ -142,11 +138,11 @@ module _ (role : Role) (key : Shape) (words : List ℕ) (written : List Entry) (
     entries = g.entries;
   }
 
-  pub range_published : (e : Entry) → number_of e < key.size → e.1 ≤ key.length → InRange (way_of role key.size) key words (written ++ e ∷ [])
-  range_published e low brief = record {
+  pub range_published : (e : Entry) → IsLawful key e → InRange (way_of role key.size) key words (written ++ e ∷ [])
+  range_published e lawful = record {
     numbers = g.numbers;
     lens = g.lens;
-    entries = λ n d at. ⊎_elim (λ (old : get_elem? written n ≡ some d). g.entries n d old) (λ (t : (n ≡ length written) × (e ≡ d)). subst (λ (y : Entry). (number_of y < key.size) × (y.1 ≤ key.length)) t.1 (low, brief)) (at_end written e n d at);
+    entries = λ n d at. ⊎_elim (λ (old : get_elem? written n ≡ some d). g.entries n d old) (λ (t : (n ≡ length written) × (e ≡ d)). subst (IsLawful key) t.1 lawful) (at_end written e n d at);
   }
 
 pub constants_stay : (key : Shape) (words : List ℕ) (i x : ℕ) → IsMoving key.size i → Constants key words → Constants key (set words i x)

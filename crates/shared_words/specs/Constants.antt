@@ -1,6 +1,6 @@
 -- The words that no step stores, and the ranges of the others.
 -- Source: VIRTIO 1.2, section 2.7.5 (WRITE is 2, for buffers that the device writes), and docs/PROFILE.md: single descriptors, whose numbers are the buffers'.
-use Rattle.std.specs.Prelude.{◌≡◌, ℕ, ◌+◌, ◌*◌, ◌<◌, ◌≤◌, ◌==◌, List, slice_index, if◌then◌else◌}
+use Rattle.std.specs.Prelude.{◌≡◌, ℕ, ◌+◌, ◌*◌, ◌<◌, ◌≤◌, ◌==◌, List, length, slice_index, if◌then◌else◌}
 use mathlib.Core.Option.{some}
 use lib.ListN.{get_elem?}
 use Rattle.shared_words.specs.Layout.{field_at}
@@ -24,8 +24,12 @@ pub record Constants (key : Shape) (words : List ℕ) : Type 0 where
   pub avail_flags : field_at words key.size AvailFlags ≡ 0
   pub used_flags : field_at words key.size UsedFlags ≡ 0
 
--- each number is below the size, and each length fits a buffer, in the words of a way and in its list
+-- an entry is a buffer of the ring, with a length that fits it
+abbrev pub IsLawful : Shape → Entry → Type 0
+IsLawful key e = (number_of e < key.size) × (e.1 ≤ key.length) × (length e.0.bytes ≡ key.length)
+
+-- each number is below the size and each length fits a buffer, in the words of a way and in its list
 pub record InRange (way : Way) (key : Shape) (words : List ℕ) (written : List Entry) : Type 0 where
   pub numbers : (p : ℕ) → p < key.size → slice_index words (way.number p) < key.size
   pub lens : (k : ℕ) → k < key.size → slice_index words (way.len k) ≤ key.length
-  pub entries : (n : ℕ) (e : Entry) → get_elem? written n ≡ some e → (number_of e < key.size) × (e.1 ≤ key.length)
+  pub entries : (n : ℕ) (e : Entry) → get_elem? written n ≡ some e → IsLawful key e

@@ -30,7 +30,7 @@ by_either kind made old r new = (role : Role) → kind role made old r new
 
 -- begin: both views are new, and every slot is taken
 abbrev pub begun : Made → Seated → ℕ → Seated → Type 0
-begun made old r new = (longest : ℕ) → old.0 ≡ Opening longest → (new.0 ≡ Whole (new_view longest) (new_view longest)) × (new.1 ≡ map vacant (numbers_from 0 made.slots))
+begun made old r new = (width : ℕ) → old.0 ≡ Opening width → (new.0 ≡ Whole (new_view width) (new_view width)) × (new.1 ≡ map vacant (numbers_from 0 made.slots))
 
 -- store descriptor length
 abbrev pub desc_len_stored : Made → Seated → ℕ → Seated → Type 0
@@ -62,7 +62,7 @@ index_loaded role made old r new = (v : HalfView) → old.0 ≡ Live role v → 
 abbrev pub number_loaded : Role → Made → Seated → ℕ → Seated → Type 0
 number_loaded role made old r new = (v : HalfView) → old.0 ≡ Live role v → (new.0 ≡ Live role (staging (NumberRead r) v)) × (new.1 ≡ old.1) × (r < made.slots)
 
--- load descriptor length, or used length: the slot is taken with its buffer, whose number was not held
+-- load descriptor length, or used length: the slot is taken with its buffer, whose number was not held and which is as long as all buffers of the ring
 abbrev pub len_loaded : Role → Made → Seated → ℕ → Seated → Type 0
 len_loaded role made old r new = (v : HalfView) (id : ℕ) → old.0 ≡ Live role v → v.staged ≡ NumberRead id
-    → (b : Stored) × (b.number ≡ id) × (new.0 ≡ Live role (taking (b, r) v)) × (new.1 ≡ (id, Some b) ∷ old.1) × (r ≤ v.longest) × (times id v.written ≡ begins role made.slots id + times id v.taken)
+    → (b : Stored) × (b.number ≡ id) × (new.0 ≡ Live role (taking (b, r) v)) × (new.1 ≡ (id, Some b) ∷ old.1) × (r ≤ v.width) × (length b.bytes ≡ v.width) × (times id v.written ≡ begins role made.slots id + times id v.taken)

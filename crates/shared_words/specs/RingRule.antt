@@ -35,7 +35,7 @@ pub record OneWay (role : Role) (key : Shape) (words : List ℕ) (homes : Homes)
   pub out : (x : ℕ) → Holds role key.size writer x → get_elem? homes x ≡ some none
   pub in_range : InRange (way_of role key.size) key words writer.written
   pub last_entries : LastEntries (way_of role key.size) key.size words writer.written writer.staged
-  pub longest : writer.longest ≡ key.length
+  pub width : writer.width ≡ key.length
 
 -- the words and slots are those of halves with these views
 pub record Content (key : Shape) (words : List ℕ) (homes : Homes) (driver device : HalfView) : Type 0 where
@@ -58,7 +58,7 @@ pub record Running (key : Shape) (s : RingState) : Type 0 where
 
 -- the view of a half that has done nothing
 abbrev pub new_view : ℕ → HalfView
-new_view longest = record { written = []; taken = []; shown = 0; looks = []; staged = Idle; steps = 0; longest = longest }
+new_view width = record { written = []; taken = []; shown = 0; looks = []; staged = Idle; steps = 0; width = width }
 
 -- a ring that has not begun: no half is there, nothing was written, and every slot is at home and empty
 pub record NotBegun (key : Shape) (s : RingState) : Type 0 where

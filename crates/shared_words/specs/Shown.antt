@@ -7,10 +7,10 @@ use Rattle.shared_words.specs.declared.rule.Shape.{Shape}
 use Rattle.shared_words.specs.declared.view.Role.{Role}
 use Rattle.shared_words.specs.declared.view.HalfView.{HalfView}
 
--- which ring it is, and the most bytes that a length can tell
+-- which ring it is, and how many bytes each of its buffers has
 pub record RingId : Type 0 where
   pub table : TableId
-  pub longest : ℕ
+  pub width : ℕ
 
 -- how many buffers it has
 abbrev pub size_of : RingId → ℕ
@@ -22,7 +22,7 @@ pub record TableShown : Type 0 where
 
 -- its shape
 abbrev pub shape_of : TableShown → Shape
-shape_of table = record { queue = table.queue; size = size_of table.ring; length = table.ring.longest }
+shape_of table = record { queue = table.queue; size = size_of table.ring; length = table.ring.width }
 
 pub record HalfShown : Type 0 where
   pub ring : RingId

@@ -14,7 +14,7 @@ InOrder Device (LengthStored id len) = ⊥
 InOrder role staged = Unit {0}
 
 -- what is stored is of a held number, and stands in the words of the n-th entry, which is the next
-module _ (way : Way) (size longest : ℕ) (words : List ℕ) (Held : ℕ → Type 0) (n : ℕ) where
+module _ (way : Way) (size width : ℕ) (words : List ℕ) (Held : ℕ → Type 0) (n : ℕ) where
   abbrev pub NumberStands : ℕ → Type 0
   NumberStands id = slice_index words (way.number (n % size)) ≡ id
 
@@ -23,7 +23,7 @@ module _ (way : Way) (size longest : ℕ) (words : List ℕ) (Held : ℕ → Typ
 
   abbrev pub StagedHolds : Staged → Type 0
   StagedHolds Idle = Unit {0}
-  StagedHolds (LengthStored id len) = Held id × LengthStands id len × (len ≤ longest)
+  StagedHolds (LengthStored id len) = Held id × LengthStands id len × (len ≤ width)
   StagedHolds (NumberStored id) = Held id × NumberStands id
-  StagedHolds (BothStored id len) = Held id × NumberStands id × LengthStands id len × (len ≤ longest)
+  StagedHolds (BothStored id len) = Held id × NumberStands id × LengthStands id len × (len ≤ width)
   StagedHolds (NumberRead id) = Unit {0}

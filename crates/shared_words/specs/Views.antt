@@ -33,7 +33,7 @@ IsLiveFor role view = ⊥
 -- what a seat knows of the views of the halves and of their seats
 module _ (half : Role → HalfView) (seat_of : Role → ℕ) (seat : ℕ) where
   abbrev pub Knows : View → Type 0
-  Knows (Opening longest) = ⊥
+  Knows (Opening width) = ⊥
   Knows (Whole driver device) = (driver ≡ half Driver) × (device ≡ half Device) × (seat ≡ seat_of Driver) × (seat ≡ seat_of Device)
   Knows (Live role view) = (view ≡ half role) × (seat ≡ seat_of role)
   Knows (Note role note) = IsNoteOf note (half role)

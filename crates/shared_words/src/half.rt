@@ -23,7 +23,7 @@ impl Model for Half {
 
     ghost Value = { HalfShown };
 
-    ghost view = { λ h. record { ring = record { table = h.seat.table_id; longest = (half_in h.seat.me.0).longest }; role = role_in h.seat.me.0; view = half_in h.seat.me.0 } };
+    ghost view = { λ h. record { ring = record { table = h.seat.table_id; width = (half_in h.seat.me.0).width }; role = role_in h.seat.me.0; view = half_in h.seat.me.0 } };
 
     ghost invariant = { λ h. SeatHolds h.seat.table_id.slots h.seat.me h.written h.taken h.read };
 }

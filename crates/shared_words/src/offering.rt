@@ -18,7 +18,7 @@ impl RingTable {
         requires driver { IsHalfOf self.now Driver half.old }
         requires idle { half.old.view.staged ≡ Idle }
         requires holds { HoldsNumber half.old id }
-        requires fits { len ≤ self.now.ring.longest }
+        requires fits { len ≤ self.now.ring.width }
         ensures { half.new ≡ with_view (staging (LengthStored id len) half.old.view) half.old }
     {
         let seat = &mut half.seat;
@@ -44,6 +44,7 @@ impl RingTable {
     pub fn publish_avail(&self, half: &mut Half, buffer: Buffer)
         requires driver { IsHalfOf self.now Driver half.old }
         requires stored { half.old.view.staged ≡ BothStored buffer.number (len_in half.old.view.staged) }
+        requires bytes { length buffer.bytes ≡ self.now.ring.width }
         ensures { half.new ≡ with_view (writing (buffer, len_in half.old.view.staged) half.old.view) half.old }
     {
         self.publish(half, Role::Driver, buffer);
@@ -77,7 +78,8 @@ impl RingTable {
         requires read { half.old.view.staged ≡ NumberRead (number_in half.old.view.staged) }
         ensures view { half.new ≡ with_view (taking (result.0, result.1) half.old.view) half.old }
         ensures number { result.0.number ≡ number_in half.old.view.staged }
-        ensures fits { result.1 ≤ self.now.ring.longest }
+        ensures fits { result.1 ≤ self.now.ring.width }
+        ensures bytes { length result.0.bytes ≡ self.now.ring.width }
         ensures not_held { HoldsNumber half.old result.0.number → ⊥ }
     {
         self.take(half, Role::Device)

@@ -30,7 +30,7 @@ impl RingTable {
     pub fn put_used_len(&self, half: &mut Half, len: u32)
         requires device { IsHalfOf self.now Device half.old }
         requires stored { half.old.view.staged ≡ NumberStored (number_in half.old.view.staged) }
-        requires fits { len ≤ self.now.ring.longest }
+        requires fits { len ≤ self.now.ring.width }
         ensures { half.new ≡ with_view (staging (BothStored (number_in half.old.view.staged) len) half.old.view) half.old }
     {
         let word = word_of(self.size, Field::UsedLen(self.place(half.written)));
@@ -43,6 +43,7 @@ impl RingTable {
     pub fn publish_used(&self, half: &mut Half, buffer: Buffer)
         requires device { IsHalfOf self.now Device half.old }
         requires stored { half.old.view.staged ≡ BothStored buffer.number (len_in half.old.view.staged) }
+        requires bytes { length buffer.bytes ≡ self.now.ring.width }
         ensures { half.new ≡ with_view (writing (buffer, len_in half.old.view.staged) half.old.view) half.old }
     {
         self.publish(half, Role::Device, buffer);
@@ -76,7 +77,8 @@ impl RingTable {
         requires read { half.old.view.staged ≡ NumberRead (number_in half.old.view.staged) }
         ensures view { half.new ≡ with_view (taking (result.0, result.1) half.old.view) half.old }
         ensures number { result.0.number ≡ number_in half.old.view.staged }
-        ensures fits { result.1 ≤ self.now.ring.longest }
+        ensures fits { result.1 ≤ self.now.ring.width }
+        ensures bytes { length result.0.bytes ≡ self.now.ring.width }
         ensures not_held { HoldsNumber half.old result.0.number → ⊥ }
     {
         self.take(half, Role::Driver)

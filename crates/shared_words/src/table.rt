@@ -25,7 +25,7 @@ impl Model for RingTable {
 
     ghost Value = { TableShown };
 
-    ghost view = { λ t. record { ring = record { table = t.board.shared.table_id; longest = t.board.shared.key.length }; queue = t.queue } };
+    ghost view = { λ t. record { ring = record { table = t.board.shared.table_id; width = t.board.shared.key.length }; queue = t.queue } };
 
     ghost invariant = { λ t. TableHolds t.board.shared.table_id t.board.shared.key t.queue t.size × (t.words.items ≡ []) × (word_count t.size ≤ vec_capacity t.words) × (t.home.items ≡ []) × (t.size ≤ vec_capacity t.home) };
 }

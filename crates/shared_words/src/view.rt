@@ -50,13 +50,13 @@ pub struct HalfView {
     /// How many steps this half made: the loads and stores of its calls. Notes, and the parting and joining of views, are
     /// none of them.
     pub steps: u64,
-    /// The greatest length, in bytes.
-    pub longest: u64,
+    /// How many bytes each buffer of the ring has.
+    pub width: u64,
 }
 
 /// The view of a seat of the ring's table.
 pub enum View {
-    /// Before the ring begins. It has the greatest length, in bytes.
+    /// Before the ring begins. It has the number of bytes of each buffer.
     Opening(u64),
     /// The views of the driver and of the device.
     Whole(HalfView, HalfView),

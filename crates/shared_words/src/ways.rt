@@ -59,6 +59,7 @@ impl RingTable {
     pub(crate) fn publish(&self, half: &mut Half, role: Role, buffer: Buffer)
         requires half { IsHalfOf self.now role half.old }
         requires stored { half.old.view.staged ≡ BothStored buffer.number (len_in half.old.view.staged) }
+        requires bytes { length buffer.bytes ≡ self.now.ring.width }
         ensures { half.new ≡ with_view (writing (buffer, len_in half.old.view.staged) half.old.view) half.old }
     {
         let id = buffer.number();
@@ -111,7 +112,8 @@ impl RingTable {
         requires read { half.old.view.staged ≡ NumberRead (number_in half.old.view.staged) }
         ensures view { half.new ≡ with_view (taking (result.0, result.1) half.old.view) half.old }
         ensures number { result.0.number ≡ number_in half.old.view.staged }
-        ensures fits { result.1 ≤ self.now.ring.longest }
+        ensures fits { result.1 ≤ self.now.ring.width }
+        ensures bytes { length result.0.bytes ≡ self.now.ring.width }
         ensures not_held { HoldsNumber half.old result.0.number → ⊥ }
     {
         let id = half.read;

@@ -112,14 +112,15 @@ half_writes role e half new counts flags id steps k f held same is = let low = h
 )
 
 -- a half that read a number, and took the entry with it
-pub record HasTaken (role : Role) (e : Entry) (new : HalfShown) (counts : Counts) (flags : List Bool) (id : ℕ) : Type 0 where
+pub record HasTaken (role : Role) (e : Entry) (before new : HalfShown) (counts : Counts) (flags : List Bool) (id : ℕ) : Type 0 where
   pub is_kept : IsKept role new (record counts { taken = (counts.taken + 1) % 2 ^ 16; left = counts.left - 1 })
   pub has_flags : HasFlags role new (set flags id true)
   pub is_held : HoldsNumber role (end_of new) (number_of e)
+  pub same_ring : new.ring ≡ before.ring
 
 pub half_takes : (role : Role) (e : Entry) (half read new : HalfShown) (on on' : TableShown) (counts : Counts) (flags : List Bool) (id : ℕ) → IsKept role half counts → HasFlags role half flags → IsLeft (end_of half) → on ≡ on' → half.ring ≡ on'.ring
     → read ≡ with_view (staging (NumberRead id) half.view) half → id < size_of on.ring → new ≡ with_view (taking e read.view) read → number_of e ≡ number_in read.view.staged → (table.HoldsNumber read (number_of e) → ⊥)
-    → HasTaken role e new counts flags id
+    → HasTaken role e half new counts flags id
 half_takes role e half read new on on' counts flags id k f left same fit reads below takes_it number none_there =
     let steps : ℕ = half.view.steps + 1 + 1 in
     let is : new ≡ with_view (counted steps (taking e half.view)) half = takes_it ∙ ap (λ (x : HalfShown). with_view (taking e x.view) x) reads in
@@ -129,4 +130,5 @@ half_takes role e half read new on on' counts flags id k f left same fit reads b
       is_kept = subst (λ (x : HalfShown). IsKept role x (record counts { taken = (counts.taken + 1) % 2 ^ 16; left = counts.left - 1 })) (sym is) (kept_takes role e half counts steps k left free low);
       has_flags = subst (λ (x : HalfShown × ℕ). HasFlags role x.0 (set flags x.1 true)) (λ i. (sym is i, num i)) (flags_take role e half flags steps f (omega (arith, low, count)) free);
       is_held = subst (λ (x : HalfShown). HoldsNumber role (end_of x) (number_of e)) (sym is) (taken_held role e (end_of half) k.sound);
+      same_ring = ap (λ (x : HalfShown). x.ring) is;
     }

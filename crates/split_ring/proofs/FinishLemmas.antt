@@ -8,7 +8,6 @@ use Rattle.std.specs.List.{All}
 use Rattle.std.specs.List.Sorted.{IsStrictlyIncreasing}
 use mathlib.Core.Option.{some}
 use lib.ListN.{get_elem?}
-use Rattle.mc_base.specs.Limits.{buffer_size}
 use Rattle.mc_base.specs.Stored.{Stored}
 use Rattle.shared_words.specs.declared.field.Field.TheVariants.{AvailIdx, UsedIdx}
 use Rattle.shared_words.specs.declared.view.Role.TheVariants.{Driver, Device}
@@ -17,7 +16,7 @@ use Rattle.shared_words.specs.Layout.{word, field_at}
 use Rattle.shared_words.specs.Entry.{Entry, number_of, often, inside}
 use Rattle.shared_words.specs.Shape.{IsRingSize, IsShape}
 use Rattle.shared_words.specs.Way.{Way, available, used}
-use Rattle.shared_words.specs.Constants.{InRange}
+use Rattle.shared_words.specs.Constants.{InRange, IsLawful}
 use Rattle.shared_words.specs.declared.rule.Shape.{Shape}
 use Rattle.shared_words.specs.Slots.{numbers_from}
 use Rattle.shared_words.specs.Shown.{RingId, TableShown, HalfShown, size_of, shape_of}
@@ -34,7 +33,7 @@ use Rattle.split_ring.specs.declared.finish.Entries.TheVariants.{Offered, Return
 use Rattle.split_ring.specs.Ends.{holding_of}
 use Rattle.split_ring.specs.Kept.{end_of, IsKept, flag_count, HasFlags}
 use Rattle.split_ring.specs.Left.{number_field, number_at, between, numbers_standing}
-use Rattle.split_ring.specs.Finished.{FinishedRing, Fits, IsFinished}
+use Rattle.split_ring.specs.Finished.{FinishedRing, IsFinished}
 
 -- The lists of the numbers that are held
 
@@ -93,11 +92,8 @@ at_or {A} (x ∷ xs) zero d h = refl
 at_or {A} (x ∷ xs) (suc k) d h = at_or xs k d (omega (arith, h))
 
 -- each entry of a way fits
-all_fit : (way : Way) (key : Shape) (words : List ℕ) (es : List Entry) → key.length ≡ buffer_size → InRange way key words es → All (Fits key.size) es
-all_fit way key words es full r k d h =
-    let e : Entry = get_or es k d in
-    let fits = r.entries k e (at_or es k d h) in
-    let short = fits.1 in (fits.0, omega (arith, short, full))
+all_fit : (way : Way) (key : Shape) (words : List ℕ) (es : List Entry) → InRange way key words es → All (IsLawful key) es
+all_fit way key words es r k d h = r.entries k (get_or es k d) (at_or es k d h)
 
 module _ (ring : TableShown) (d e : HalfShown) (words : List ℕ) (home : List (Option Stored)) (c : IsClosed (shape_of ring) d.view e.view words home) (s : IsRingSize (size_of ring.ring)) where
   abbrev z : ℕ
@@ -121,13 +117,13 @@ module _ (ring : TableShown) (d e : HalfShown) (words : List ℕ) (home : List (
   pub returned_between : (between (length d.view.taken % 65536) (length e.view.written % 65536) ≡ length c.returned_left) × (length c.returned_left ≤ size_of ring.ring)
   returned_between = between_is z e.view.written d.view.taken c.returned_left s c.returned returned_below
 
-  pub finishes : (dc ec : Counts) (df ef : List Bool) (r : FinishedRing) → IsKept Driver d dc → IsKept Device e ec → HasFlags Driver d df → HasFlags Device e ef → d.ring ≡ ring.ring → e.ring ≡ ring.ring → r.queue ≡ ring.queue → r.size ≡ size_of ring.ring → IsShape (shape_of ring) → ring.ring.longest ≡ buffer_size → r.words ≡ words
+  pub finishes : (dc ec : Counts) (df ef : List Bool) (r : FinishedRing) → IsKept Driver d dc → IsKept Device e ec → HasFlags Driver d df → HasFlags Device e ef → d.ring ≡ ring.ring → e.ring ≡ ring.ring → r.queue ≡ ring.queue → r.size ≡ size_of ring.ring → IsShape (shape_of ring) → r.width ≡ ring.ring.width → r.words ≡ words
       → r.offered_left ≡ numbers_standing words (size_of ring.ring) Offered ec.taken (between ec.taken (field_at words (size_of ring.ring) AvailIdx))
       → r.returned_left ≡ numbers_standing words (size_of ring.ring) Returned dc.taken (between dc.taken (field_at words (size_of ring.ring) UsedIdx))
       → ((x : ℕ) → often x r.driver_held ≡ flag_count df x) → ((x : ℕ) → often x r.device_held ≡ flag_count ef x)
       → IsStrictlyIncreasing r.driver_held → IsStrictlyIncreasing r.device_held → r.driver_looks ≡ dc.looks → r.driver_saw ≡ dc.saw → r.device_looks ≡ ec.looks → r.device_saw ≡ ec.saw
       → IsFinished ring (end_of d) (end_of e) r
-  finishes dc ec df ef r kd ke fd fe d_on e_on queue size shape longest words_are off ret dh eh dr er dl ds el es =
+  finishes dc ec df ef r kd ke fd fe d_on e_on queue size shape width words_are off ret dh eh dr er dl ds el es =
       let offered : r.offered_left ≡ map number_of c.offered_left = off ∙ ((λ i. numbers_standing words z Offered (ke.taken i) (between (ke.taken i) (offered_idx i)))
       ∙ standing_is words z Offered (length e.view.taken) (between (length e.view.taken % 65536) (length d.view.written % 65536)) c.offered_left s offered_between.0 c.offered_stand) in
       let returned : r.returned_left ≡ map number_of c.returned_left = ret ∙ ((λ i. numbers_standing words z Returned (kd.taken i) (between (kd.taken i) (returned_idx i)))
@@ -137,9 +133,9 @@ module _ (ring : TableShown) (d e : HalfShown) (words : List ℕ) (home : List (
         queue = queue;
         size = size;
         shape = shape;
-        longest = longest;
-        offered_fit = all_fit (available z) (shape_of ring) words d.view.written longest c.offered_in_range;
-        returned_fit = all_fit (used z) (shape_of ring) words e.view.written longest c.returned_in_range;
+        width = width;
+        offered_fit = all_fit (available z) (shape_of ring) words d.view.written c.offered_in_range;
+        returned_fit = all_fit (used z) (shape_of ring) words e.view.written c.returned_in_range;
         offered_rest = c.offered_left;
         returned_rest = c.returned_left;
         offered = c.offered;

@@ -1,6 +1,7 @@
 -- What contracts see of a driver and of a device, and what each call does to it.
 -- Source: VIRTIO 1.2, section 2.7: the driver offers buffers, and the device returns them.
 use Rattle.std.specs.Prelude.{◌≡◌, ◌⊎◌, ℕ, ◌+◌, ◌-◌, ◌<◌, ◌≤◌, List, [], ◌∷◌, ◌++◌, length, Option, Some, None}
+use Rattle.std.specs.List.{All}
 use Rattle.mc_base.specs.Stored.{Stored}
 use Rattle.shared_words.specs.Entry.{Entry, times, times_by, inside}
 use Rattle.shared_words.specs.Places.{begins, starts_with}
@@ -50,9 +51,22 @@ holding_of role half x = begins role (size_of half.ring) x + times x half.taken 
 abbrev pub HoldsNumber : Role → End → ℕ → Type 0
 HoldsNumber role half x = times x half.written < begins role (size_of half.ring) x + times x half.taken
 
+-- the buffer is as long as each buffer of the ring
+abbrev pub HasWidth : End → Stored → Type 0
+HasWidth half b = length b.bytes ≡ half.ring.width
+
+-- it holds the buffer
+abbrev pub HoldsBuffer : Role → End → Stored → Type 0
+HoldsBuffer role half b = HoldsNumber role half b.number × HasWidth half b
+
 -- it holds the numbers of all these buffers, each for one of them
-abbrev pub AreHeld : Role → End → List Stored → Type 0
-AreHeld role half buffers = (x : ℕ) → times_by (λ (b : Stored). b.number) x buffers ≤ holding_of role half x
+abbrev pub HoldsNumbers : Role → End → List Stored → Type 0
+HoldsNumbers role half buffers = (x : ℕ) → times_by (λ (b : Stored). b.number) x buffers ≤ holding_of role half x
+
+-- it holds all these buffers
+pub record AreHeld (role : Role) (half : End) (buffers : List Stored) : Type 0 where
+  pub numbers : HoldsNumbers role half buffers
+  pub wide : All (HasWidth half) buffers
 
 -- how many numbers it holds
 abbrev pub held_count : Role → End → ℕ

@@ -1,11 +1,11 @@
 -- What is known of a ring that is finished: of its words, of where its buffers are, and of what its halves saw.
 -- Source: VIRTIO 1.2, section 2.7; docs/PROFILE.md: the driver owns all buffers.
-use Rattle.std.specs.Prelude.{◌≡◌, ℕ, ◌+◌, ◌<◌, ◌≤◌, ◌%◌, ◌^◌, List, ◌++◌, map, length, sum}
+use Rattle.std.specs.Prelude.{◌≡◌, ℕ, ◌+◌, ◌≤◌, ◌%◌, ◌^◌, List, ◌++◌, map, length, sum}
 use Rattle.std.specs.List.{All}
 use Rattle.std.specs.List.Sorted.{IsStrictlyIncreasing}
-use Rattle.mc_base.specs.Limits.{buffer_size}
 use Rattle.shared_words.specs.Shape.{IsShape}
 use Rattle.shared_words.specs.Entry.{Entry, number_of, often, inside}
+use Rattle.shared_words.specs.Constants.{IsLawful}
 use Rattle.shared_words.specs.Shown.{TableShown, size_of, shape_of}
 use Rattle.shared_words.specs.Closed.{AreFinal}
 use Rattle.shared_words.specs.declared.view.Role.TheVariants.{Driver, Device}
@@ -15,6 +15,7 @@ use Rattle.split_ring.specs.Ends.{End, holding_of}
 pub record FinishedRing : Type 0 where
   pub queue : ℕ
   pub size : ℕ
+  pub width : ℕ
   pub words : List ℕ
   pub offered_left : List ℕ
   pub returned_left : List ℕ
@@ -25,19 +26,16 @@ pub record FinishedRing : Type 0 where
   pub device_looks : ℕ
   pub device_saw : ℕ
 
--- the entry's number is one of a ring of this size, and its length fits a buffer
-abbrev pub Fits : ℕ → Entry → Type 0
-Fits size e = (number_of e < size) × (e.1 ≤ buffer_size)
-
 -- the ring between these halves is finished as this
 pub record IsFinished (ring : TableShown) (driver device : End) (closed : FinishedRing) : Type 0 where
   pub queue : closed.queue ≡ ring.queue
   pub size : closed.size ≡ size_of ring.ring
-  -- it is queue 0 or 1, of a size that a queue can have, over buffers of 512 bytes
+  pub width : closed.width ≡ ring.ring.width
+  -- it is queue 0 or 1, of a size that a queue can have, over buffers of a length that buffers can have
   pub shape : IsShape (shape_of ring)
-  pub longest : ring.ring.longest ≡ buffer_size
-  pub offered_fit : All (Fits (size_of ring.ring)) driver.written
-  pub returned_fit : All (Fits (size_of ring.ring)) device.written
+  -- each number is below the size, each length fits a buffer, and each buffer is as long as all of the ring
+  pub offered_fit : All (IsLawful (shape_of ring)) driver.written
+  pub returned_fit : All (IsLawful (shape_of ring)) device.written
   -- what was offered is what was fetched and then what is left, with bytes and lengths; and the same of what was returned
   pub offered_rest : List Entry
   pub returned_rest : List Entry

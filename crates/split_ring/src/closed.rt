@@ -8,6 +8,7 @@ use std::marker::Model;
 pub struct Closed {
     pub(crate) queue: u8,
     pub(crate) size: u32,
+    pub(crate) length: u32,
     pub(crate) words: Vec<u64>,
     pub(crate) offered_left: Vec<u16>,
     pub(crate) returned_left: Vec<u16>,
@@ -24,7 +25,7 @@ impl Model for Closed {
 
     ghost Value = { FinishedRing };
 
-    ghost view = { λ c. record { queue = c.queue; size = c.size; words = c.words.items; offered_left = c.offered_left.items; returned_left = c.returned_left.items; driver_held = c.driver_held.items; device_held = c.device_held.items; driver_looks = c.driver_looks; driver_saw = c.driver_saw; device_looks = c.device_looks; device_saw = c.device_saw } };
+    ghost view = { λ c. record { queue = c.queue; size = c.size; width = c.length; words = c.words.items; offered_left = c.offered_left.items; returned_left = c.returned_left.items; driver_held = c.driver_held.items; device_held = c.device_held.items; driver_looks = c.driver_looks; driver_saw = c.driver_saw; device_looks = c.device_looks; device_saw = c.device_saw } };
 }
 
 impl Closed {
@@ -40,6 +41,13 @@ impl Closed {
         ensures { result ≡ self.now.size }
     {
         self.size
+    }
+
+    /// How many bytes each of its buffers has.
+    pub fn length(&self) -> u32
+        ensures { result ≡ self.now.width }
+    {
+        self.length
     }
 
     /// Its words, in their order.

@@ -1,9 +1,8 @@
 //! The device's half.
 ghost use Rattle.std.specs.Prelude.{◌≡◌, ◌+◌, ◌<◌, ◌≤◌, IfSome};
-ghost use Rattle.mc_base.specs.Limits.{buffer_size};
 ghost use Rattle.shared_words.specs.declared.view.Role.TheVariants as role;
 ghost use Rattle.shared_words.specs.Shown.{size_of};
-ghost use Rattle.split_ring.specs.Ends.{writes, looks_at, takes, IsLeft, TakesNext, HoldsNumber, held_count, IsSound};
+ghost use Rattle.split_ring.specs.Ends.{writes, looks_at, takes, IsLeft, TakesNext, HoldsNumber, HoldsBuffer, held_count, IsSound};
 
 use crate::counts::Counts;
 use crate::ring::Ring;
@@ -43,13 +42,13 @@ impl fmt::Debug for Device {
 }
 
 impl Device {
-    /// Gives back a buffer that the device holds, with a length of 0 to 512. Stores `used.ring[idx % size]`, its number and its
-    /// length, then `used.idx` (VIRTIO 1.2, section 2.7.8).
+    /// Gives back a buffer that the device holds, with a length of at most the buffer's. Stores `used.ring[idx % size]`, its
+    /// number and its length, then `used.idx` (VIRTIO 1.2, section 2.7.8).
     #[inline(always)]
     pub fn give(&mut self, on: &Ring, buffer: Buffer, len: u32)
         requires ring { self.old.ring ≡ on.now.ring }
-        requires holds { HoldsNumber role.Device self.old buffer.number }
-        requires fits { len ≤ buffer_size }
+        requires holds { HoldsBuffer role.Device self.old buffer }
+        requires fits { len ≤ self.old.ring.width }
         ensures returned { self.new ≡ writes (buffer, len) self.old }
         ensures sound { IsSound role.Device self.new }
     {
@@ -81,9 +80,9 @@ impl Device {
         ensures fetched { TakesNext self.old result self.new }
         ensures shown { self.old.shown ≤ self.new.shown }
         ensures not_held { IfSome result (λ r. HoldsNumber role.Device self.old r.0.number → ⊥) }
-        ensures held { IfSome result (λ r. HoldsNumber role.Device self.new r.0.number) }
+        ensures held { IfSome result (λ r. HoldsBuffer role.Device self.new r.0) }
         ensures below { IfSome result (λ r. r.0.number < size_of self.old.ring) }
-        ensures fits { IfSome result (λ r. r.1 ≤ buffer_size) }
+        ensures fits { IfSome result (λ r. r.1 ≤ self.old.ring.width) }
         ensures sound { IsSound role.Device self.new }
     {
         if self.counts.left == 0 && self.look(on) == 0 {
@@ -99,9 +98,9 @@ impl Device {
         requires left { IsLeft self.old }
         ensures fetched { self.new ≡ takes (result.0, result.1) self.old }
         ensures not_held { HoldsNumber role.Device self.old result.0.number → ⊥ }
-        ensures held { HoldsNumber role.Device self.new result.0.number }
+        ensures held { HoldsBuffer role.Device self.new result.0 }
         ensures below { result.0.number < size_of self.old.ring }
-        ensures fits { result.1 ≤ buffer_size }
+        ensures fits { result.1 ≤ self.old.ring.width }
         ensures sound { IsSound role.Device self.new }
     {
         self.counts.take();

@@ -90,6 +90,7 @@ impl Ring {
             table,
             queue,
             size,
+            length,
             room,
         } = self;
         let Driver {
@@ -126,6 +127,7 @@ impl Ring {
         Closed {
             queue,
             size,
+            length,
             words,
             offered_left,
             returned_left,

@@ -1,13 +1,13 @@
 ghost use Rattle.std.specs.Prelude.{◌≡◌, ◌≤◌, ◌%◌, IfSome, length};
 ghost use Rattle.std.specs.List.{All};
-ghost use Rattle.mc_base.specs.Limits.{buffer_size};
+ghost use Rattle.mc_base.specs.Limits.{buffer_size, link_limit};
 ghost use Rattle.shared_words.specs.Shown.{size_of};
 ghost use Rattle.shared_words.specs.declared.view.Role.TheVariants as role;
-ghost use Rattle.split_ring.specs.Ends.{HoldsNumber};
+ghost use Rattle.split_ring.specs.Ends.{HoldsBuffer};
 ghost use Rattle.ring_trace.specs.SoundImages.{ReturnsAreEmpty};
 
 use crate::images::ONE_FRAME;
-use mc_base::Buffer;
+use mc_base::{Buffer, MAX_LINK_SIZE};
 use outer_io::{Failed, MemSink};
 use ring_trace::{ImageInfo, check_image, finished_images_are_sound, image_of, write_image};
 use split_ring::{Closed, Device, Driver, Ring};
@@ -47,7 +47,8 @@ fn rounds(
     count: u32,
 ) -> u32
     requires rings { (driver.old.ring ≡ on.now.ring) × (device.old.ring ≡ on.now.ring) }
-    requires held { HoldsNumber role.Driver driver.old first.number }
+    requires held { HoldsBuffer role.Driver driver.old first }
+    requires width { on.now.ring.width ≡ buffer_size }
     requires fit { (lengths.offered ≤ buffer_size) × (lengths.returned ≤ buffer_size) }
     requires returned { All (λ e. e.1 ≡ lengths.returned) device.old.written }
     ensures rings { (driver.new.ring ≡ on.now.ring) × (device.new.ring ≡ on.now.ring) }
@@ -68,12 +69,16 @@ fn rounds(
     count
 }
 
-/// A ring after so many rounds with its first buffer.
+/// A ring that a link can have, after so many rounds with its first buffer.
 fn run(alloc: Global, queue: u8, size: u32, count: u32) -> Option<(Ring, Driver, Device)>
     ensures halves { IfSome result (λ r. (r.1.ring ≡ r.0.ring) × (r.2.ring ≡ r.0.ring)) }
     ensures empty { IfSome result (λ r. ReturnsAreEmpty r.0.queue r.2.written) }
+    ensures link { IfSome result (λ r. (size_of r.0.ring ≤ link_limit) × (r.0.ring.width ≡ buffer_size)) }
 {
-    let Ok((ring, mut driver, mut device, mut buffers)) = Ring::new(alloc, queue, size) else {
+    if size > MAX_LINK_SIZE {
+        return None;
+    }
+    let Ok((ring, mut driver, mut device, mut buffers)) = Ring::new(alloc, queue, size, 512) else {
         return None;
     };
     if buffers.is_empty() {
@@ -105,6 +110,7 @@ fn after_rounds(alloc: Global, size: u32, count: u32) -> Option<Closed> {
 fn info_of(alloc: Global, ring: Ring, driver: Driver, device: Device) -> Option<ImageInfo>
     requires halves { (driver.ring ≡ ring.ring) × (device.ring ≡ ring.ring) }
     requires empty { ReturnsAreEmpty ring.queue device.written }
+    requires link { (size_of ring.ring ≤ link_limit) × (ring.ring.width ≡ buffer_size) }
     ensures ring { IfSome result (λ i. (i.size ≡ size_of ring.ring) × (i.queue ≡ ring.queue)) }
     ensures avail { IfSome result (λ i. i.avail ≡ length driver.written % 65536) }
     ensures used { IfSome result (λ i. i.used ≡ length device.written % 65536) }

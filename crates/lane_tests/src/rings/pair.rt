@@ -1,5 +1,6 @@
 //! Both ends of a lane over a ring.
 ghost use Rattle.std.specs.Prelude.{◌≡◌, ◌≤◌, vec_capacity};
+ghost use Rattle.mc_base.specs.Limits.{buffer_size};
 ghost use Rattle.shared_words.specs.declared.view.Role.TheVariants as role;
 ghost use Rattle.shared_words.specs.Shape.{IsRingSize};
 ghost use Rattle.shared_words.specs.Shown.{size_of};
@@ -43,6 +44,7 @@ impl<'a> Pair<'a> {
     ) -> Pair<'a>
         requires queue { (ring.now.queue ≡ queue) × (queue ≤ 1) }
         requires size { IsRingSize (size_of ring.now.ring) }
+        requires width { ring.now.ring.width ≡ buffer_size }
         requires halves { (driver ≡ new_end ring.now.ring) × (device ≡ new_end ring.now.ring) }
         requires sound { IsSound role.Driver driver × IsSound role.Device device }
         requires buffers { buffers.items ≡ new_buffers ring.now.ring }

@@ -3,14 +3,14 @@ use Rattle.std.specs.List.{AllByRecursion}
 use Rattle.shared_words.specs.Shape.{IsRingSize}
 use Rattle.board_model.specs.declared.scenario.LinkLine.{LinkLine}
 use Rattle.board_model.proofs.LawfulBoards.{lawful_is_linked}
-use Rattle.board_model.proofs.LawfulRanges.{lawful-sizes}
 use Rattle.board_runner.proofs.ActorBoards.{have-acted}
 use Rattle.board_runner.proofs.OverRings.{ran-over, wired}
+use Rattle.board_runner.proofs.WiredLemmas.{ring-sizes}
 use Rattle.board_runner.proofs.actors.run_actors.Goals as goal
 
 -- a lawful board's links have sizes that a ring may have
 pub rings_of-requires : goal.rings_of-requires
-rings_of-requires g c = subst (λ (ls : List LinkLine). AllByRecursion (λ l. IsRingSize l.size) ls) (sym c.as_slice-links.ensures) (lawful-sizes c.args.board.now c.requires.lawful)
+rings_of-requires g c = subst (λ (ls : List LinkLine). AllByRecursion (λ l. IsRingSize l.size) ls) (sym c.as_slice-links.ensures) (ring-sizes c.args.board.now c.requires.lawful)
 
 -- the wires are those of the board's links, over its rings
 pub act_domains-requires-clause-wired : goal.act_domains-requires-clause-wired

@@ -1,5 +1,6 @@
-use Rattle.std.proofs.Common.{◌≡◌, ◌∙◌, ℕ, List, Option, None, Some, ap, arith, refl, subst, sym, true}
+use Rattle.std.proofs.Common.{◌≡◌, ◌∙◌, ℕ, List, length, IfSome, Option, None, Some, ap, arith, refl, subst, sym, true}
 use Rattle.std.specs.Prelude.{IsNone, IsSome, is_some, option_map}
+use Rattle.mc_base.specs.Limits.{buffer_size}
 use Rattle.mc_base.specs.Stored.{Stored}
 use Rattle.buffer_book.specs.Book.{Item}
 use Rattle.domain_parts.specs.AllMoved.{giving}
@@ -22,10 +23,13 @@ unwrap-buffer-requires g c =
     let next = next-there g.P.PeerLane.Moved g.P.PeerLane.seen c.args.slot None c.args.book.now c.loop.book c.loop.counter c.args.ends.now c.loop.ends c.loop.invariant (omega (arith, frames-many g.P.PeerLane.Moved g.P.PeerLane.seen c.args.slot None c.args.book.now c.pieces-end.result c.requires.queued c.pieces-end.ensures, c.loop-test.true)) in
     there-is c.withdraw_next.result _ _ next c.withdraw_next.ensures.none.0
 
-pub give_back-requires : goal.give_back-requires
-give_back-requires g c =
+pub give_back-requires-clause-out : goal.give_back-requires-clause-out
+give_back-requires-clause-out g c =
     next-out g.P.PeerLane.Moved g.P.PeerLane.seen c.args.slot None c.args.book.now c.loop.book c.loop.counter c.args.ends.now c.loop.ends c.loop.invariant (omega (arith, frames-many g.P.PeerLane.Moved g.P.PeerLane.seen c.args.slot None c.args.book.now c.pieces-end.result c.requires.queued c.pieces-end.ensures, c.loop-test.true)) c.unwrap-buffer.result.number
     (sym (ap (option_map (λ (r : Stored). r.number)) c.unwrap-buffer.ensures) ∙ c.withdraw_next.ensures.number)
+
+pub give_back-requires-clause-wide : goal.give_back-requires-clause-wide
+give_back-requires-clause-wide g c = subst (λ (o : Option Stored). IfSome o (λ (b : Stored). length b.bytes ≡ buffer_size)) c.unwrap-buffer.ensures c.withdraw_next.ensures.wide
 
 pub loop-preserved : goal.loop-preserved
 loop-preserved g c =

@@ -1,5 +1,6 @@
 use Rattle.std.proofs.Common.{◌≡◌, ◌∙◌, ℕ, List, [], Option, None, Some, ap, arith, length, refl, subst, true}
 use Rattle.std.specs.Prelude.{IfOk, IsErr, IsNone, OnOk, Ok, Err, Result, is_ok, is_some, option_map}
+use Rattle.mc_base.specs.Limits.{buffer_size}
 use Rattle.buffer_book.specs.Book.{Book, Item, NoneAside, count_of, lent_as, slot_of, with_taken}
 use Rattle.buffer_book.proofs.NoneAside.{lent-plain}
 use Rattle.domain_parts.specs.AllMoved.{giving}
@@ -43,12 +44,15 @@ unwrap-buffer-requires g c =
     let next = next-there g.P.PeerLane.Moved g.P.PeerLane.seen (slot_of c.args.id) (Some c.args.id.serial) c.args.book.now c.loop.book c.loop.counter c.args.ends.now c.loop.ends c.loop.invariant (omega (arith, many c.args.book.now c.args.id c.lent_pieces.result c.unwrap-end.result c.requires.none_aside c.requires.lent c.unwrap-end.ensures c.lent_pieces.ensures.count, c.loop-test.true)) in
     ok-is c.release_next.result _ _ (lent-plain c.loop.book c.args.id (c.loop.invariant.none_aside c.requires.none_aside) ∙ next) c.release_next.ensures.refused.0
 
-pub give_back-requires : goal.give_back-requires
-give_back-requires g c =
+pub give_back-requires-clause-out : goal.give_back-requires-clause-out
+give_back-requires-clause-out g c =
     let plain = lent-plain c.loop.book c.args.id (c.loop.invariant.none_aside c.requires.none_aside) in
     let told = subst (λ o. IfOk o (λ r. Some r.0.number ≡ option_map (λ (i : Item). i.first) (lent_as c.loop.book c.args.id))) c.unwrap-buffer.ensures c.release_next.ensures.number in
     next-out g.P.PeerLane.Moved g.P.PeerLane.seen (slot_of c.args.id) (Some c.args.id.serial) c.args.book.now c.loop.book c.loop.counter c.args.ends.now c.loop.ends c.loop.invariant (omega (arith, many c.args.book.now c.args.id c.lent_pieces.result c.unwrap-end.result c.requires.none_aside c.requires.lent c.unwrap-end.ensures c.lent_pieces.ensures.count, c.loop-test.true)) c.unwrap-buffer.result.0.number
     (told ∙ ap (option_map (λ (i : Item). i.first)) plain)
+
+pub give_back-requires-clause-wide : goal.give_back-requires-clause-wide
+give_back-requires-clause-wide g c = subst (λ o. IfOk o (λ r. length r.0.bytes ≡ buffer_size)) c.unwrap-buffer.ensures c.release_next.ensures.wide
 
 pub loop-preserved : goal.loop-preserved
 loop-preserved g c =

@@ -13,7 +13,7 @@ one-more old new b n all number is =
 
 pub loop-number-preserved : goal.loop-number-preserved
 loop-number-preserved c = record {
-  numbers = one-more c.loop-number.buffers.items _ c.in-Ok.buffer c.loop-number.number c.loop-number.invariant.numbers c.in-Ok.ensures.number c.push_back_reserved.ensures.items;
+  numbers = one-more c.loop-number.buffers.items _ c.in-Ok.buffer c.loop-number.number c.loop-number.invariant.numbers c.in-Ok.ensures.number (c.push_back_reserved.ensures.items ∙ ap (λ (b : Stored). c.loop-number.buffers.items ++ b ∷ []) c.new-in-loop-number.ensures);
   len = search rules;
   room = search rules;
 }

@@ -12,6 +12,6 @@ returns c =
     let i = c.send.inside in let j = c.recv.inside in let e = c.meet.ensures in
     let s = sender_with Driver i.half i.free.items in let r = receiver_with Device j.half j.shown in
     let one : AreOfOneRing s r = subst (λ (x : RingSender × RingReceiver). AreOfOneRing x.0 x.1) (λ k. (sym c.send.view_is k, sym c.recv.view_is k)) c.requires in
-    let met = have-met s r one c.send.invariant.sender c.recv.invariant.receiver e.fetched e.reclaimed e.device_shown e.driver_shown in
+    let met = have-met s r one c.send.invariant.keeps.sender c.recv.invariant.receiver e.fetched e.reclaimed e.device_shown e.driver_shown in
     subst (λ (x : RingSender × RingReceiver × RingSender × RingReceiver). HaveMet x.0 x.1 x.2 x.3)
     (λ k. (c.send.view_is k, c.recv.view_is k, sender_with Driver (sym e.driver k) i.free.items, receiver_with Device (sym e.device k) j.shown)) met

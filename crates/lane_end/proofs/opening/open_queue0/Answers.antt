@@ -17,14 +17,17 @@ pub invariant_of-send : goal.invariant_of-send
 invariant_of-send c =
     let on = c.args.on.now in let cap = deque_capacity c.prime.new.buffers in let all = c.from_vec-free.ensures.items ∙ c.requires.buffers in let e = c.prime.ensures in
     let q = c.requires.room in let v = c.from_vec-free.ensures.capacity in let p = e.room in
-    subst (KeepsSender on cap) (sym (queue0-is on.ring c.prime.new.device c.from_vec-free.result.items c.prime.new.buffers.items all e.free e.device))
-    (queue0-sends on cap c.requires.size (omega (arith, q, v, p)) (subst (IsSound Device) (primed-is on.ring c.prime.new.device c.from_vec-free.result.items all e.device) e.sound.1))
+    record {
+      keeps = subst (KeepsSender on cap) (sym (queue0-is on.ring c.prime.new.device c.from_vec-free.result.items c.prime.new.buffers.items all e.free e.device))
+          (queue0-sends on c.requires.width cap c.requires.size (omega (arith, q, v, p)) (subst (IsSound Device) (primed-is on.ring c.prime.new.device c.from_vec-free.result.items all e.device) e.sound.1));
+      wide = e.wide;
+    }
 
 pub invariant_of-recv : goal.invariant_of-recv
 invariant_of-recv c =
     let on = c.args.on.now in let all = c.from_vec-free.ensures.items ∙ c.requires.buffers in let e = c.prime.ensures in
     let is = offered-is on.ring c.prime.new.driver c.from_vec-free.result.items all e.driver in
-    subst (λ (h : End). KeepsReceiver on (receiver_with Driver h 0)) (sym is) (queue0-receives on (subst (IsSound Driver) is e.sound.0))
+    subst (λ (h : End). KeepsReceiver on (receiver_with Driver h 0)) (sym is) (queue0-receives on c.requires.width (subst (IsSound Driver) is e.sound.0))
 
 pub returns-clause-sender : goal.returns-clause-sender
 returns-clause-sender c =

@@ -22,6 +22,7 @@ pub give_back-requires-2 : goal.give_back-requires-2
 give_back-requires-2 g c = record {
   out = still-out (g.R.RecvEnd.out c.look.new.self) (g.R.RecvEnd.out c.take-first.new.self) (g.R.RecvEnd.out c.take-second.new.self) (g.R.RecvEnd.out c.give_back.new.self) c.take-first.result.0.number c.take-second.result.0.number
       c.take-first.ensures.out c.take-second.ensures.out c.give_back.ensures.out;
+  wide = c.take-first.ensures.wide;
 }
 
 pub returns : goal.returns

@@ -1,4 +1,4 @@
-use Rattle.std.proofs.Common.{◌≡◌, ◌∙◌, ap}
+use Rattle.std.proofs.Common.{◌∙◌, ap}
 use Rattle.shared_words.specs.declared.view.Role.TheVariants as role
 use Rattle.split_ring.specs.Ends.{End}
 use Rattle.split_ring.proofs.HeldLemmas.{last_held, rest_held}

@@ -8,6 +8,6 @@ use Rattle.ring_bench.proofs.batch.reclaim_all.Goals as goal
 pub loop-preserved : goal.loop-preserved
 loop-preserved c = let inv = c.loop.invariant in let e : Entry = (c.in-Some.buffer, c.in-Some.field-0-1) in record {
   ring = taken_ring c.loop.driver c.reclaim.new.self e c.in-Some.ensures.reclaimed ∙ inv.ring;
-  held = pushed_held role.Driver c.loop.driver c.reclaim.new.self c.loop.free.items c.push_back.new.self.items e (is_ok c.push_back.result) c.if-is_err.ensures.negation c.push_back.ensures.items inv.sound c.in-Some.ensures.reclaimed inv.held;
+  held = pushed_held role.Driver c.loop.driver c.reclaim.new.self c.loop.free.items c.push_back.new.self.items e (is_ok c.push_back.result) c.if-is_err.ensures.negation c.push_back.ensures.items inv.sound c.in-Some.ensures.reclaimed inv.held c.in-Some.ensures.held.1;
   sound = c.reclaim.ensures.sound;
 }

@@ -2,11 +2,11 @@ use Rattle.std.proofs.Common.{◌≡◌, Option, Some, None, IfSome, ◌++◌, L
 use Rattle.std.specs.Prelude.{option_to_list}
 use Rattle.mc_base.specs.Stored.{Stored}
 use Rattle.shared_words.specs.declared.view.Role.TheVariants as role
-use Rattle.split_ring.specs.Ends.{End, HoldsNumber, AreHeld}
+use Rattle.split_ring.specs.Ends.{End, HoldsBuffer, AreHeld}
 use Rattle.split_ring.proofs.HeldLemmas.{last_held}
 use Rattle.ring_bench.proofs.one.run.Goals as goal
 
-popped : (half : End) (bs more : List Stored) (r : Option Stored) → bs ≡ more ++ option_to_list r → AreHeld role.Driver half bs → IfSome r (λ (b : Stored). HoldsNumber role.Driver half b.number)
+popped : (half : End) (bs more : List Stored) (r : Option Stored) → bs ≡ more ++ option_to_list r → AreHeld role.Driver half bs → IfSome r (λ (b : Stored). HoldsBuffer role.Driver half b)
 popped half bs more None is held = tt
 popped half bs more (Some b) is held = last_held role.Driver half bs more b is held
 

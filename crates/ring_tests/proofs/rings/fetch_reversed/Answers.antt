@@ -18,6 +18,6 @@ pub loop-preserved : goal.loop-preserved
 loop-preserved c = let inv = c.loop.invariant in let e : Entry = (c.in-Some.buffer, c.in-Some.field-0-1) in let bs : List Stored = c.loop.held.items in
     let items : c.push_front.new.self.items ≡ c.in-Some.buffer ∷ c.loop.held.items = pushed c.push_front.new.self.items bs c.in-Some.buffer (is_ok c.push_front.result) c.push_front.ensures.items c.if-is_err.ensures.negation in record {
       ring = taken_ring c.loop.device c.fetch.new.self e c.in-Some.ensures.fetched ∙ inv.ring;
-      held = subst (AreHeld role.Device c.fetch.new.self) (sym items) (fronted_held role.Device c.loop.device c.fetch.new.self bs e inv.sound c.in-Some.ensures.fetched inv.held);
+      held = subst (AreHeld role.Device c.fetch.new.self) (sym items) (fronted_held role.Device c.loop.device c.fetch.new.self bs e inv.sound c.in-Some.ensures.fetched inv.held c.in-Some.ensures.held.1);
       sound = c.fetch.ensures.sound;
     }

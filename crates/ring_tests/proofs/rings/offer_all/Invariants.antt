@@ -7,7 +7,7 @@ abbrev pub invariant-loop-buffer : goal.invariant-loop-buffer
 invariant-loop-buffer l = record {
   ring : l.driver.ring ≡ l.on.ring;
   held : AreHeld role.Driver l.driver l.buffers.items;
-  brief : l.len ≤ 255;
+  brief : l.len ≤ 63;
 }
 
 abbrev pub decreases-loop-buffer : goal.decreases-loop-buffer

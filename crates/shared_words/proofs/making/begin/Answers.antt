@@ -1,4 +1,4 @@
-use Rattle.std.proofs.Common.{◌≡◌, ◌∙◌, ap, sym, arith, subst, map, ℕ, List, get_or, ◌≤◌}
+use Rattle.std.proofs.Common.{◌≡◌, ◌∙◌, ap, sym, arith, subst, map, ℕ, List, get_or}
 use Rattle.atomic_table.specs.Seated.{TableId}
 use Rattle.atomic_table.specs.Table.{Splits}
 use Rattle.shared_words.specs.declared.rule.Shape.{Shape}
@@ -17,12 +17,10 @@ use Rattle.shared_words.specs.Start.{shape}
 use Rattle.shared_words.proofs.Beginning.{opens, allows_begin, splits_part, first_driver}
 use Rattle.shared_words.proofs.making.begin.Goals as goal
 
-shaped : (queue size : ℕ) → queue ≤ 1 → Rattle.shared_words.specs.Shape.IsRingSize size → IsShape (shape queue size)
-shaped queue size q s = record { queue = q; size = s; length = omega arith }
-
 pub vacant-requires : goal.vacant-requires
 vacant-requires c = let q = c.args.queue in let z = c.args.size in
-    opens (shape q z) c.as_slice.result.now (shaped q z c.requires.queue c.requires.size) (λ i. ap (λ (w : List ℕ). get_or w i 0) c.as_slice.ensures.value ∙ c.in_ok-first.ensures.words i) (c.as_slice.ensures.len ∙ c.in_ok-first.ensures.len)
+    let shaped : IsShape (shape q z c.args.length) = record { queue = c.requires.queue; size = c.requires.size; length = c.requires.length } in
+    opens (shape q z c.args.length) c.as_slice.result.now shaped (λ i. ap (λ (w : List ℕ). get_or w i 0) c.as_slice.ensures.value ∙ c.in_ok-first.ensures.words i) (c.as_slice.ensures.len ∙ c.in_ok-first.ensures.len)
 
 pub load-zero-requires : goal.load-zero-requires
 load-zero-requires c = let t = c.in_ok-board.board.shared in let s = c.in_ok-board.seat in let e = c.in_ok-board.ensures in (

@@ -1,4 +1,4 @@
-use Rattle.std.proofs.Common.{◌≡◌, ◌⊎◌, ◌∙◌, sym, refl, subst, inl, inr, ⊎_elim, ℕ, zero, suc, ◌≤◌, ◌^◌, Bool, true, false, eqb, eqb-true, true≢false, arith}
+use Rattle.std.proofs.Common.{◌≡◌, ◌⊎◌, ◌∙◌, sym, refl, subst, inl, inr, ⊎_elim, ℕ, zero, suc, ◌≤◌, ◌^◌, Bool, true, false, eqb, eqb-true, true≢false, List, [], ◌∷◌, arith}
 use mathlib.Core.Bool.{◌||◌}
 use Rattle.shared_words.specs.Shape.{IsRingSize}
 use Rattle.shared_words.proofs.making.is_ring_size.Goals as goal
@@ -7,29 +7,29 @@ either_true : (a b : Bool) → (a || b) ≡ true → (a ≡ true) ⊎ (b ≡ tru
 either_true true b e = inl refl
 either_true false b e = inr e
 
-a_power : (z k n : ℕ) → 1 ≤ k → k ≤ 8 → n ≡ 2 ^ k → eqb n z ≡ true → IsRingSize z
-a_power z k n a b e t = (k, a, b, sym (eqb-true n z t) ∙ e)
+-- one of these is the number
+abbrev is_one : List ℕ → ℕ → Bool
+is_one [] z = false
+is_one (n ∷ ns) z = eqb n z || is_one ns z
 
-is_a_size : (z : ℕ) → (eqb 2 z || (eqb 4 z || (eqb 8 z || (eqb 16 z || (eqb 32 z || (eqb 64 z || (eqb 128 z || (eqb 256 z || false)))))))) ≡ true → IsRingSize z
-is_a_size z t0 =
-    ⊎_elim (a_power z 1 2 (omega arith) (omega arith) refl) (λ t1.
-    ⊎_elim (a_power z 2 4 (omega arith) (omega arith) refl) (λ t2.
-    ⊎_elim (a_power z 3 8 (omega arith) (omega arith) refl) (λ t3.
-    ⊎_elim (a_power z 4 16 (omega arith) (omega arith) refl) (λ t4.
-    ⊎_elim (a_power z 5 32 (omega arith) (omega arith) refl) (λ t5.
-    ⊎_elim (a_power z 6 64 (omega arith) (omega arith) refl) (λ t6.
-    ⊎_elim (a_power z 7 128 (omega arith) (omega arith) refl) (λ t7.
-    ⊎_elim (a_power z 8 256 (omega arith) (omega arith) refl) (λ t8. absurd (true≢false (sym t8)))
-    (either_true (eqb 256 z) false t7))
-    (either_true (eqb 128 z) (eqb 256 z || false) t6))
-    (either_true (eqb 64 z) (eqb 128 z || (eqb 256 z || false)) t5))
-    (either_true (eqb 32 z) (eqb 64 z || (eqb 128 z || (eqb 256 z || false))) t4))
-    (either_true (eqb 16 z) (eqb 32 z || (eqb 64 z || (eqb 128 z || (eqb 256 z || false)))) t3))
-    (either_true (eqb 8 z) (eqb 16 z || (eqb 32 z || (eqb 64 z || (eqb 128 z || (eqb 256 z || false))))) t2))
-    (either_true (eqb 4 z) (eqb 8 z || (eqb 16 z || (eqb 32 z || (eqb 64 z || (eqb 128 z || (eqb 256 z || false)))))) t1))
-    (either_true (eqb 2 z) (eqb 4 z || (eqb 8 z || (eqb 16 z || (eqb 32 z || (eqb 64 z || (eqb 128 z || (eqb 256 z || false))))))) t0)
+abbrev AreSizes : List ℕ → Type 0
+AreSizes [] = Unit {0}
+AreSizes (n ∷ ns) = IsRingSize n × AreSizes ns
 
-power_is : (k : ℕ) → 1 ≤ k → k ≤ 8 → (eqb 2 (2 ^ k) || (eqb 4 (2 ^ k) || (eqb 8 (2 ^ k) || (eqb 16 (2 ^ k) || (eqb 32 (2 ^ k) || (eqb 64 (2 ^ k) || (eqb 128 (2 ^ k) || (eqb 256 (2 ^ k) || false)))))))) ≡ true
+one_size : (ns : List ℕ) (z : ℕ) → AreSizes ns → is_one ns z ≡ true → IsRingSize z
+one_size [] z all t = absurd (true≢false (sym t))
+one_size (n ∷ ns) z all t = ⊎_elim (λ (e : eqb n z ≡ true). subst IsRingSize (eqb-true n z e) all.0) (λ (more : is_one ns z ≡ true). one_size ns z all.1 more) (either_true (eqb n z) (is_one ns z) t)
+
+abbrev sizes : List ℕ
+sizes = 2 ∷ 4 ∷ 8 ∷ 16 ∷ 32 ∷ 64 ∷ 128 ∷ 256 ∷ 512 ∷ 1024 ∷ 2048 ∷ 4096 ∷ 8192 ∷ 16384 ∷ 32768 ∷ []
+
+power : (k : ℕ) → 1 ≤ k → k ≤ 15 → IsRingSize (2 ^ k)
+power k low high = (k, low, high, refl)
+
+all_sizes : AreSizes sizes
+all_sizes = (power 1 (omega arith) (omega arith), (power 2 (omega arith) (omega arith), (power 3 (omega arith) (omega arith), (power 4 (omega arith) (omega arith), (power 5 (omega arith) (omega arith), (power 6 (omega arith) (omega arith), (power 7 (omega arith) (omega arith), (power 8 (omega arith) (omega arith), (power 9 (omega arith) (omega arith), (power 10 (omega arith) (omega arith), (power 11 (omega arith) (omega arith), (power 12 (omega arith) (omega arith), (power 13 (omega arith) (omega arith), (power 14 (omega arith) (omega arith), (power 15 (omega arith) (omega arith), tt)))))))))))))))
+
+power_is : (k : ℕ) → 1 ≤ k → k ≤ 15 → is_one sizes (2 ^ k) ≡ true
 power_is zero a b = absurd (omega arith)
 power_is (suc zero) a b = refl
 power_is (suc (suc zero)) a b = refl
@@ -39,10 +39,17 @@ power_is (suc (suc (suc (suc (suc zero))))) a b = refl
 power_is (suc (suc (suc (suc (suc (suc zero)))))) a b = refl
 power_is (suc (suc (suc (suc (suc (suc (suc zero))))))) a b = refl
 power_is (suc (suc (suc (suc (suc (suc (suc (suc zero)))))))) a b = refl
-power_is (suc (suc (suc (suc (suc (suc (suc (suc (suc k))))))))) a b = absurd (omega arith)
+power_is (suc (suc (suc (suc (suc (suc (suc (suc (suc zero))))))))) a b = refl
+power_is (suc (suc (suc (suc (suc (suc (suc (suc (suc (suc zero)))))))))) a b = refl
+power_is (suc (suc (suc (suc (suc (suc (suc (suc (suc (suc (suc zero))))))))))) a b = refl
+power_is (suc (suc (suc (suc (suc (suc (suc (suc (suc (suc (suc (suc zero)))))))))))) a b = refl
+power_is (suc (suc (suc (suc (suc (suc (suc (suc (suc (suc (suc (suc (suc zero))))))))))))) a b = refl
+power_is (suc (suc (suc (suc (suc (suc (suc (suc (suc (suc (suc (suc (suc (suc zero)))))))))))))) a b = refl
+power_is (suc (suc (suc (suc (suc (suc (suc (suc (suc (suc (suc (suc (suc (suc (suc zero))))))))))))))) a b = refl
+power_is (suc (suc (suc (suc (suc (suc (suc (suc (suc (suc (suc (suc (suc (suc (suc (suc k)))))))))))))))) a b = absurd (omega arith)
 
 pub returns : goal.returns
 returns c = let v = c.contains.ensures.value in let z = c.args.size in (
-  λ t. is_a_size z (sym v ∙ t),
-  λ s. v ∙ subst (λ (y : ℕ). (eqb 2 y || (eqb 4 y || (eqb 8 y || (eqb 16 y || (eqb 32 y || (eqb 64 y || (eqb 128 y || (eqb 256 y || false)))))))) ≡ true) (sym s.3) (power_is s.0 s.1 s.2),
+  λ t. one_size sizes z all_sizes (sym v ∙ t),
+  λ s. v ∙ subst (λ (y : ℕ). is_one sizes y ≡ true) (sym s.3) (power_is s.0 s.1 s.2),
 )

@@ -374,8 +374,11 @@ returns-in-Handed-clause-takes g c =
 
 -- ---- its buffer is given back
 
-pub give_back-requires : goal.give_back-requires
-give_back-requires g c =
+pub give_back-requires-clause-wide : goal.give_back-requires-clause-wide
+give_back-requires-clause-wide g c = c.take-buffer.ensures.wide
+
+pub give_back-requires-clause-out : goal.give_back-requires-clause-out
+give_back-requires-clause-out g c =
     let d = c.self.inside in
     let x = c.index_mut-peer.result.now in
     let at = there-read (v g) d.book d.endpoints d.requests d.table d.peers.items c.args.place x (subst (λ (h : Holding g.row.P.Denot). c.args.place < length h.parts.peers) (sym c.self.view_is) c.requires.within) c.index_mut-peer.ensures.value in

@@ -22,7 +22,7 @@ invariant_of-self c =
     let held = subst (λ (r : Receiver). Contains r.out c.args.buffer.number) (sym c.self.view_is) c.requires.out in
     let size = ap (λ (a : Arrived). a.size) c.strike.ensures in
     record {
-      sound = sound c.self.inside.inbox c.strike.new.self c.self.inside.given.items c.push_back_reserved.new.self.items c.args.buffer c.number.result held c.number.ensures c.strike.ensures c.push_back_reserved.ensures.items c.self.invariant.sound;
+      sound = sound c.self.inside.inbox c.strike.new.self c.self.inside.given.items c.push_back_reserved.new.self.items c.args.buffer c.number.result held c.number.ensures c.strike.ensures (c.push_back_reserved.ensures.items ∙ ap (λ (b : Stored). c.self.inside.given.items ++ b ∷ []) c.new.ensures) c.self.invariant.sound;
       room = omega (arith, size, c.push_back_reserved.ensures.capacity, c.self.invariant.room);
     }
 
@@ -30,10 +30,10 @@ pub returns-clause-apart : goal.returns-clause-apart
 returns-clause-apart c =
     let held = subst (λ (r : Receiver). Contains r.out c.args.buffer.number) (sym c.self.view_is) c.requires.out in
     receiver-apart (receiver_with c.strike.new.self (numbers_of c.push_back_reserved.new.self.items))
-    (sound c.self.inside.inbox c.strike.new.self c.self.inside.given.items c.push_back_reserved.new.self.items c.args.buffer c.number.result held c.number.ensures c.strike.ensures c.push_back_reserved.ensures.items c.self.invariant.sound)
+    (sound c.self.inside.inbox c.strike.new.self c.self.inside.given.items c.push_back_reserved.new.self.items c.args.buffer c.number.result held c.number.ensures c.strike.ensures (c.push_back_reserved.ensures.items ∙ ap (λ (b : Stored). c.self.inside.given.items ++ b ∷ []) c.new.ensures) c.self.invariant.sound)
 
 pub returns-clause-room : goal.returns-clause-room
 returns-clause-room c =
     let held = subst (λ (r : Receiver). Contains r.out c.args.buffer.number) (sym c.self.view_is) c.requires.out in
     receiver-room (receiver_with c.strike.new.self (numbers_of c.push_back_reserved.new.self.items))
-    (sound c.self.inside.inbox c.strike.new.self c.self.inside.given.items c.push_back_reserved.new.self.items c.args.buffer c.number.result held c.number.ensures c.strike.ensures c.push_back_reserved.ensures.items c.self.invariant.sound)
+    (sound c.self.inside.inbox c.strike.new.self c.self.inside.given.items c.push_back_reserved.new.self.items c.args.buffer c.number.result held c.number.ensures c.strike.ensures (c.push_back_reserved.ensures.items ∙ ap (λ (b : Stored). c.self.inside.given.items ++ b ∷ []) c.new.ensures) c.self.invariant.sound)

@@ -5,7 +5,7 @@ use Rattle.lane_end.specs.Numbers.{AreApart}
 use Rattle.lane_end.specs.ReceiveMoves.{Took}
 use Rattle.lane_end.specs.RingReceiver.{RingReceiver, receiver_size, out_at, RingReceives}
 use Rattle.lane_end.specs.KeptRing.{receiver_with}
-use Rattle.lane_end.proofs.ReceiverLemmas.{take-keeps, take-moves, took, out-apart, out-room, out-takes}
+use Rattle.lane_end.proofs.ReceiverLemmas.{ring_width, take-keeps, take-moves, took, out-apart, out-room, out-takes}
 use Rattle.lane_end.proofs.ring_recv.RingRecvRecvEnd.take.Goals as goal
 
 pub returns-clause-out : goal.returns-clause-out
@@ -39,3 +39,14 @@ returns-clause-moved g c =
     let k = take-keeps i.on.now r c.self.invariant e some (subst (IsSound role) is c.take_next.ensures.sound) in
     subst (λ (x : RingReceiver × RingReceiver). RingReceives x.0 (Took e.0.number (take e.1 e.0.bytes) ∷ []) x.1) (λ j. (c.self.view_is j, receiver_with role (sym is j) (i.shown - 1)))
     (take-moves i.on.now r c.self.invariant e (out-apart i.on.now (took e r) k))
+
+pub returns-clause-fits : goal.returns-clause-fits
+returns-clause-fits g c =
+    let i = c.self.inside in let f = c.take_next.ensures.fits in
+    let w = ring_width i.on.now (receiver_with g.H.RingHalf.role (g.H.RingHalf.end i.half) i.shown) c.self.invariant in omega (arith, f, w)
+
+pub returns-clause-wide : goal.returns-clause-wide
+returns-clause-wide g c =
+    let i = c.self.inside in
+    c.take_next.ensures.wide ∙ (ap (λ (h : End). h.ring.width) c.take_next.ensures.taken
+    ∙ ring_width i.on.now (receiver_with g.H.RingHalf.role (g.H.RingHalf.end i.half) i.shown) c.self.invariant)

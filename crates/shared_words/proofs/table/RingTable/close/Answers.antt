@@ -39,7 +39,7 @@ returns c = let t = c.self.inside in let h = c.driver.inside in let k = c.device
     let n = meets Device t k c.args.self c.args.device c.self.invariant.0 c.self.view_is c.device.invariant c.device.view_is c.requires.device in
     let words : List ℕ = slots_items c.close_with-closed.result.words in let home : List (Option Stored) = slots_items c.close_with-closed.result.slots in
     let view : seat.me.0 ≡ united h.seat.me.0 c.split_seat-passed.result.me.0 = ap (λ (x : Seated). x.0) c.join_seat.ensures.2 in
-    let shape : key ≡ shape_of c.args.self = λ i. record { queue = (tab.queue_is ∙ ap (λ (x : TableShown). x.queue) c.self.view_is) i; size = (sym tab.slots ∙ ap (λ (x : TableShown). x.ring.table.slots) c.self.view_is) i; length = ap (λ (x : TableShown). x.ring.longest) c.self.view_is i } in
+    let shape : key ≡ shape_of c.args.self = λ i. record { queue = (tab.queue_is ∙ ap (λ (x : TableShown). x.queue) c.self.view_is) i; size = (sym tab.slots ∙ ap (λ (x : TableShown). x.ring.table.slots) c.self.view_is) i; length = ap (λ (x : TableShown). x.ring.width) c.self.view_is i } in
     let closed : IsClosed key c.args.driver.view c.args.device.view words home =
     closes key seat.id h.seat.me.0 c.split_seat-passed.result.me.0 c.args.driver.view c.args.device.view words home m.live (ap (λ (x : Seated). x.0) e.4 ∙ n.live) c.requires.idle.0 c.requires.idle.1
     (subst (λ (x : View). Final (Seen (RingRule key) seat.id x) words home) view c.close_with-closed.ensures.values.2) in

@@ -5,6 +5,7 @@ use Rattle.shared_words.specs.declared.view.View.TheVariants.{Live}
 use Rattle.shared_words.specs.Change.{writing, len_in, IsStored}
 use Rattle.shared_words.specs.Slots.{Slot, front_value}
 use Rattle.shared_words.specs.Kinds.{Seated}
+use Rattle.shared_words.specs.Shown.{TableShown}
 use Rattle.shared_words.specs.Way.{way_of}
 use Rattle.shared_words.specs.HalfHolds.{HalfHolds}
 use Rattle.shared_words.proofs.Steps.{allows_publish}
@@ -24,7 +25,7 @@ store-requires c = let t = c.self.inside in let h = c.half.inside in let me = c.
     let within = c.idx_word-word.ensures.within in let sized = size_here c.args.role t h me.view m c.args.self.now c.self.view_is in let words = m.words in let count = m.holds.written_count in (
       c.exchange-empty.ensures.0 ∙ m.same,
       omega (arith, within, sized, words),
-      allows_publish c.args.role key t.board.shared.table_id.slots seat.id c.idx_word-word.result ((h.written + 1) % 65536) (len_in me.view.staged) seat.me me.view b (rest h.seat.me.1) live c.requires.stored (omega (arith, count)) carried (c.idx_word-word.ensures.word ∙ ap (λ (z : ℕ). (way_of c.args.role z).idx) sized),
+      allows_publish c.args.role key t.board.shared.table_id.slots seat.id c.idx_word-word.result ((h.written + 1) % 65536) (len_in me.view.staged) seat.me me.view b (rest h.seat.me.1) live c.requires.stored (c.requires.bytes ∙ (sym (ap (λ (x : TableShown). x.ring.width) c.self.view_is) ∙ sym m.width)) (omega (arith, count)) carried (c.idx_word-word.ensures.word ∙ ap (λ (z : ℕ). (way_of c.args.role z).idx) sized),
     )
 
 pub invariant_of-half : goal.invariant_of-half

@@ -23,7 +23,7 @@ pub store-requires : goal.store-requires
 store-requires c = let t = c.self.inside in let h = c.half.inside in let me = c.args.half.now in let key = t.board.shared.key in let slots = t.board.shared.table_id.slots in
     let m = meets Driver t h c.args.self.now me c.self.invariant.0 c.self.view_is c.half.invariant c.half.view_is c.requires.driver in
     let held = holds_here Driver t h me m c.args.id c.half.view_is c.requires.driver.same_role c.requires.holds in
-    let within = c.word_of-word.ensures.within in let size = m.size in let words = m.words in let brief = ap (λ (x : TableShown). x.ring.longest) c.self.view_is in let fits = c.requires.fits in (
+    let within = c.word_of-word.ensures.within in let size = m.size in let words = m.words in let brief = ap (λ (x : TableShown). x.ring.width) c.self.view_is in let fits = c.requires.fits in (
       m.same,
       omega (arith, within, size, words),
       subst (λ (i : ℕ). Allows (RingRule key) slots h.seat.id h.seat.me i (λ _. c.args.len) (λ _. desc_len_stored (step slots i c.args.len 0 none) h.seat.me c.args.len)) (sym c.word_of-word.ensures.word)

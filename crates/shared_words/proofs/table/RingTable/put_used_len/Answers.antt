@@ -15,7 +15,7 @@ store-requires c = let t = c.self.inside in let h = c.half.inside in let me = c.
     let m = meets Device t h c.args.self.now me c.self.invariant.0 c.self.view_is c.half.invariant c.half.view_is c.requires.device in
     let within = c.word_of-word.ensures.within in let size = m.size in let words = m.words in
     let place = place_here Device t h me m c.args.self.now c.self.view_is h.written (length me.view.written) m.holds.written_count in
-    let brief = ap (λ (x : TableShown). x.ring.longest) c.self.view_is in let fits = c.requires.fits in
+    let brief = ap (λ (x : TableShown). x.ring.width) c.self.view_is in let fits = c.requires.fits in
     let word : c.word_of-word.result ≡ 5 * key.size + 5 + 2 * (length me.view.written % key.size) = (let w = c.word_of-word.ensures.word in let p = c.place.ensures in omega (arith, w, p, place, size)) in (
       m.same,
       omega (arith, within, size, words),

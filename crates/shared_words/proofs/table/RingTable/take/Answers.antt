@@ -69,7 +69,7 @@ returns-clause-number c = let t = c.self.inside in let h = c.half.inside in let 
 pub returns-clause-fits : goal.returns-clause-fits
 returns-clause-fits c = let t = c.self.inside in let h = c.half.inside in let me = c.args.half.now in
     let m = meets c.args.role t h c.args.self.now me c.self.invariant.0 c.self.view_is c.half.invariant c.half.view_is c.requires.half in
-    let f = (gets c.args.role t h me c.load-len.new.seat.me c.len_word-word.result c.load-len.result m c.requires.read c.load-len.ensures.2).fits in let l = ap (λ (x : TableShown). x.ring.longest) c.self.view_is in omega (arith, f, l)
+    let f = (gets c.args.role t h me c.load-len.new.seat.me c.len_word-word.result c.load-len.result m c.requires.read c.load-len.ensures.2).fits in let l = ap (λ (x : TableShown). x.ring.width) c.self.view_is in omega (arith, f, l)
 
 pub returns-clause-not_held : goal.returns-clause-not_held
 returns-clause-not_held c = let t = c.self.inside in let h = c.half.inside in let me = c.args.half.now in
@@ -78,3 +78,10 @@ returns-clause-not_held c = let t = c.self.inside in let h = c.half.inside in le
     let some_is : Some c.in-Some.buffer ≡ Some g.buffer = sym c.in-Some.is ∙ got_buffer h.read g.buffer c.exchange-got.result c.load-len.new.seat.me.1 h.seat.me.1 c.exchange-got.ensures.2 g.carried in
     let same : c.in-Some.buffer ≡ g.buffer = cc in
     λ held. not_held c.args.role t h me m c.load-len.new.seat.me c.load-len.result g c.in-Some.buffer.number (ap (λ (b : Stored). b.number) same ∙ g.number) c.half.view_is c.requires.half.same_role held
+
+pub returns-clause-bytes : goal.returns-clause-bytes
+returns-clause-bytes c = let t = c.self.inside in let h = c.half.inside in let me = c.args.half.now in
+    let m = meets c.args.role t h c.args.self.now me c.self.invariant.0 c.self.view_is c.half.invariant c.half.view_is c.requires.half in
+    let g = gets c.args.role t h me c.load-len.new.seat.me c.len_word-word.result c.load-len.result m c.requires.read c.load-len.ensures.2 in
+    let some_is : Some c.in-Some.buffer ≡ Some g.buffer = sym c.in-Some.is ∙ got_buffer h.read g.buffer c.exchange-got.result c.load-len.new.seat.me.1 h.seat.me.1 c.exchange-got.ensures.2 g.carried in
+    let same : c.in-Some.buffer ≡ g.buffer = cc in ap (λ (b : Stored). length b.bytes) same ∙ (g.bytes ∙ ap (λ (x : TableShown). x.ring.width) c.self.view_is)

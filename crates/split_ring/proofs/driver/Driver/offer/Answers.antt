@@ -12,12 +12,12 @@ pub invariant_of-self : goal.invariant_of-self
 invariant_of-self c = let h = c.self.inside.half in let b = c.args.buffer in let n = c.number-id.result in let e : Entry = (b, c.args.len) in
     let stored : c.put_avail.new.half ≡ with_view (counted (h.view.steps + 1 + 1) (staging (BothStored n c.args.len) h.view)) h = c.put_avail.ensures ∙ ap (λ (x : HalfShown). with_view (staging (BothStored n (len_in x.view.staged)) x.view) x) c.put_len.ensures in
     let is : c.publish_avail.new.half ≡ with_view (counted (h.view.steps + 1 + 1 + 1) (writing e h.view)) h = c.publish_avail.ensures ∙ ap (λ (x : HalfShown). with_view (writing (b, len_in x.view.staged) x.view) x) stored in
-    let w = half_writes role.Driver e h c.publish_avail.new.half c.self.inside.counts c.self.inside.held.items n (h.view.steps + 1 + 1 + 1) c.self.invariant.0 c.self.invariant.1 (subst (λ (x : End). HoldsNumber role.Driver x b.number) (sym c.self.view_is) c.requires.holds) c.number-id.ensures is in
+    let w = half_writes role.Driver e h c.publish_avail.new.half c.self.inside.counts c.self.inside.held.items n (h.view.steps + 1 + 1 + 1) c.self.invariant.0 c.self.invariant.1 (subst (λ (x : End). HoldsNumber role.Driver x b.number) (sym c.self.view_is) c.requires.holds.0) c.number-id.ensures is in
     w
 
 pub returns-clause-sound : goal.returns-clause-sound
 returns-clause-sound c = let h = c.self.inside.half in let b = c.args.buffer in let n = c.number-id.result in let e : Entry = (b, c.args.len) in
     let stored : c.put_avail.new.half ≡ with_view (counted (h.view.steps + 1 + 1) (staging (BothStored n c.args.len) h.view)) h = c.put_avail.ensures ∙ ap (λ (x : HalfShown). with_view (staging (BothStored n (len_in x.view.staged)) x.view) x) c.put_len.ensures in
     let is : c.publish_avail.new.half ≡ with_view (counted (h.view.steps + 1 + 1 + 1) (writing e h.view)) h = c.publish_avail.ensures ∙ ap (λ (x : HalfShown). with_view (writing (b, len_in x.view.staged) x.view) x) stored in
-    let w = half_writes role.Driver e h c.publish_avail.new.half c.self.inside.counts c.self.inside.held.items n (h.view.steps + 1 + 1 + 1) c.self.invariant.0 c.self.invariant.1 (subst (λ (x : End). HoldsNumber role.Driver x b.number) (sym c.self.view_is) c.requires.holds) c.number-id.ensures is in
+    let w = half_writes role.Driver e h c.publish_avail.new.half c.self.inside.counts c.self.inside.held.items n (h.view.steps + 1 + 1 + 1) c.self.invariant.0 c.self.invariant.1 (subst (λ (x : End). HoldsNumber role.Driver x b.number) (sym c.self.view_is) c.requires.holds.0) c.number-id.ensures is in
     w.0.sound

@@ -1,6 +1,7 @@
 use Rattle.std.proofs.Common.{◌∙◌, ap, sym, subst}
 use Rattle.shared_words.specs.declared.view.Role.TheVariants as role
 use Rattle.shared_words.specs.Entry.{Entry}
+use Rattle.shared_words.specs.Shown.{RingId, TableShown}
 use Rattle.split_ring.specs.Ends.{End, IsLeft}
 use Rattle.split_ring.specs.Kept.{IsKept}
 use Rattle.split_ring.specs.declared.counts.Counts.{Counts}
@@ -23,4 +24,4 @@ pub returns-clause-held : goal.returns-clause-held
 returns-clause-held c = let h = c.self.inside.half in let e : Entry = (c.reclaim_len-entry.result.0, c.reclaim_len-entry.result.1) in
     let t = half_takes role.Driver e h c.read_used_id-id.new.half c.reclaim_len-entry.new.half c.on.inside.table c.args.on.now c.self.inside.counts c.self.inside.held.items c.read_used_id-id.result c.self.invariant.0 c.self.invariant.1 (subst IsLeft (sym c.self.view_is) c.requires.left)
     c.on.view_is (ap (λ (x : End). x.ring) c.self.view_is ∙ c.requires.ring) c.read_used_id-id.ensures.view c.read_used_id-id.ensures.below c.reclaim_len-entry.ensures.view c.reclaim_len-entry.ensures.number c.reclaim_len-entry.ensures.not_held in
-    t.is_held
+    (t.is_held, c.reclaim_len-entry.ensures.bytes ∙ (ap (λ (x : TableShown). x.ring.width) c.on.view_is ∙ ap (λ (r : RingId). r.width) (sym (t.same_ring ∙ (ap (λ (x : End). x.ring) c.self.view_is ∙ c.requires.ring)))))

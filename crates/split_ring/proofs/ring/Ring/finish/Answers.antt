@@ -1,7 +1,7 @@
 use Rattle.std.proofs.Common.{◌≡◌, ◌≤◌, ◌∙◌, ap, sym, refl, subst, arith, ◌%◌, ℕ, List, Bool, length}
 use Rattle.shared_words.specs.declared.field.Field.TheVariants.{AvailIdx, UsedIdx}
 use Rattle.shared_words.specs.Layout.{field_at}
-use Rattle.mc_base.specs.Limits.{buffer_size}
+use Rattle.mc_base.specs.Limits.{IsBufferLength}
 use Rattle.shared_words.specs.Shape.{IsRingSize, IsShape}
 use Rattle.shared_words.specs.Shown.{TableShown, size_of, shape_of}
 use Rattle.split_ring.specs.declared.finish.Entries.TheVariants.{Offered, Returned}
@@ -50,6 +50,7 @@ returns c = let t = c.self.inside.table in let z = size_of t.ring in let d = c.d
     let r : FinishedRing = record {
       queue = c.self.inside.queue;
       size = c.self.inside.size;
+      width = c.self.inside.length;
       words = words;
       offered_left = c.numbers_left-offered_left.result.items;
       returned_left = c.numbers_left-returned_left.result.items;
@@ -62,11 +63,11 @@ returns c = let t = c.self.inside.table in let z = size_of t.ring in let d = c.d
     } in
     let d_on = ap (λ (x : End). x.ring) c.driver.view_is ∙ (c.requires.driver ∙ sym (ap (λ (x : TableShown). x.ring) c.self.view_is)) in
     let e_on = ap (λ (x : End). x.ring) c.device.view_is ∙ (c.requires.device ∙ sym (ap (λ (x : TableShown). x.ring) c.self.view_is)) in
-    let inv = c.self.invariant in let longest : t.ring.longest ≡ buffer_size = inv.4 in
-    let queue : t.queue ≤ 1 = subst (λ (q : ℕ). q ≤ 1) inv.0 inv.5 in
-    let shape : IsShape (shape_of t) = record { queue = queue; size = s; length = omega (arith, longest) } in
+    let inv = c.self.invariant in let width : c.self.inside.length ≡ t.ring.width = inv.4 in
+    let queue : t.queue ≤ 1 = subst (λ (q : ℕ). q ≤ 1) inv.0 inv.6 in
+    let shape : IsShape (shape_of t) = record { queue = queue; size = s; length = subst IsBufferLength width inv.5 } in
     let is : IsFinished t (Rattle.split_ring.specs.Kept.end_of d) (Rattle.split_ring.specs.Kept.end_of e) r = finishes t d e words c.close-words.result.home.items closed s dc ec c.driver.inside.held.items c.device.inside.held.items r
-    c.driver.invariant.0 c.device.invariant.0 c.driver.invariant.1 c.device.invariant.1 d_on e_on c.self.invariant.0 size shape longest refl
+    c.driver.invariant.0 c.device.invariant.0 c.driver.invariant.1 c.device.invariant.1 d_on e_on c.self.invariant.0 size shape width refl
     (numbers_found c.as_slice-all.result.now words c.self.inside.size z Offered ec.taken (Rattle.std.proofs.Common.get_or c.as_slice-all.result.now c.word_of.result 0) (field_at words z AvailIdx) r.offered_left all size avail c.numbers_left-offered_left.ensures)
     (numbers_found c.as_slice-all.result.now words c.self.inside.size z Returned dc.taken (Rattle.std.proofs.Common.get_or c.as_slice-all.result.now c.word_of-2.result 0) (field_at words z UsedIdx) r.returned_left all size used c.numbers_left-returned_left.ensures)
     (λ x. c.numbers_held.ensures.each x ∙ ap (λ (l : List Bool). flag_count l x) c.as_slice.ensures.value) (λ x. c.numbers_held-2.ensures.each x ∙ ap (λ (l : List Bool). flag_count l x) c.as_slice-2.ensures.value)
